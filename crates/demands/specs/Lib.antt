@@ -1,0 +1,7 @@
+pub mod Parts
+pub mod Nodes
+pub mod Reading
+pub mod Loops
+pub mod Inference
+pub mod Naming
+pub mod Demand3

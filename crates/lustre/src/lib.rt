@@ -1,0 +1,96 @@
+// What every crate of the checker shares: a line of the report, the answer of a call, and the codes.
+// Document 01, 'What is lent' and 'The lines and their order'. specs/ holds the definition of the whole report, which contracts cite.
+pub mod codes;
+
+ghost use mathlib.Core.Path.{_≡_};
+ghost use Rattle.lustre.specs.Answer.{refusal-of, first-of, second-of};
+
+// The value of a field that has none: no record, name or line has this number.
+pub const NONE: u64 = 18446744073709551615;
+
+// Place kinds, in the order of document 01.
+pub const AT_PACKAGE: u64 = 0;
+
+pub const AT_ENUM: u64 = 1;
+
+pub const AT_TYPE: u64 = 2;
+
+pub const AT_CONSTANT: u64 = 3;
+
+pub const AT_NODE: u64 = 4;
+
+// A line of the report. `equation`, `step` and `name`, a name's number, may be NONE.
+pub struct Line {
+    pub code: u64,
+    pub place: u64,
+    pub number: u64,
+    pub equation: u64,
+    pub step: u64,
+    pub name: u64,
+}
+
+// What a call answers: a report, with its number of lines and the number of edges followed, or one of seven refusals, with its place.
+pub enum Answer {
+    Report(u64, u64),
+    Sizes,
+    ShortWork(u64),
+    BadName(u64),
+    BadRecord(u64),
+    NoProject(u64),
+    TooDeep(u64),
+    MoreLines(u64),
+}
+
+// An answer as numbers: 0 or the refusal's number, then its lines and edges followed, or its place and 0.
+pub struct Numbers {
+    pub refusal: u64,
+    pub first: u64,
+    pub second: u64,
+}
+
+pub fn as_numbers(a: Answer) -> Numbers
+    ensures { λ r. ⌜ (r .refusal ≡ refusal-of a) × (r .first ≡ first-of a) × (r .second ≡ second-of a) ⌝ }
+{
+    match a {
+        Answer::Report(lines, followed) => Numbers {
+            refusal: 0,
+            first: lines,
+            second: followed,
+        },
+        Answer::Sizes => Numbers {
+            refusal: 1,
+            first: 0,
+            second: 0,
+        },
+        Answer::ShortWork(at) => Numbers {
+            refusal: 2,
+            first: at,
+            second: 0,
+        },
+        Answer::BadName(at) => Numbers {
+            refusal: 3,
+            first: at,
+            second: 0,
+        },
+        Answer::BadRecord(at) => Numbers {
+            refusal: 4,
+            first: at,
+            second: 0,
+        },
+        Answer::NoProject(at) => Numbers {
+            refusal: 5,
+            first: at,
+            second: 0,
+        },
+        Answer::TooDeep(at) => Numbers {
+            refusal: 6,
+            first: at,
+            second: 0,
+        },
+        Answer::MoreLines(at) => Numbers {
+            refusal: 7,
+            first: at,
+            second: 0,
+        },
+    }
+}
