@@ -1,1 +1,4 @@
 pub mod Known
+pub mod ReadBack
+pub mod FlatBack
+pub mod Reading

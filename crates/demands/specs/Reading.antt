@@ -56,13 +56,13 @@ unfoldable mutual
   Writable-inits []ⁱ = Unit {0}
   Writable-inits (init x e is) = Writable-expr e × Writable-inits is
 
-unfoldable pub Writable-decl : Decl → Type 0
-Writable-decl (Alias x t) = Writable-type t
-Writable-decl (Record x fs) = Each (λ (p : Port). Writable-type (p .1)) fs
-Writable-decl (Enum x vs) = Unit {0}
-
 abbrev pub Writable-ports : List Port → Type 0
 Writable-ports = Each (λ (p : Port). Writable-type (p .1))
+
+unfoldable pub Writable-decl : Decl → Type 0
+Writable-decl (Alias x t) = Writable-type t
+Writable-decl (Record x fs) = Writable-ports fs
+Writable-decl (Enum x vs) = Unit {0}
 
 abbrev pub Writable-constant : Constant → Type 0
 Writable-constant c = Writable-type (c .type) × Writable-expr (c .value)
