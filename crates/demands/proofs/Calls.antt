@@ -16,7 +16,7 @@ use Rattle.lustre.specs.Records.{bad-record}
 use Rattle.lustre.specs.Project.{Project}
 use Rattle.lustre.specs.Line.{Line}
 use Rattle.lustre.specs.Report.{report, followed}
-use Rattle.lustre.specs.Answer.{answer, refuse, reported, refusal-of, first-of, bad-sizes, short-work, no-project, too-deep-at, project-of, writes, over, lines-after, stored, stored-report, no-value, or-none, name-word, place-number}
+use Rattle.lustre.specs.Answer.{answer, lowest, refuse, reported, refusal-of, first-of, bad-sizes, short-work, no-project, too-deep-at, project-of, writes, over, lines-after, stored, stored-report, no-value, or-none, name-word, place-number}
 use Rattle.lustre.specs.declared.Line as Stored
 use Rattle.lustre.specs.declared.Answer.{Answer}
 use Rattle.lustre.specs.declared.Answer.the-variants.{Report, Sizes, ShortWork, BadName, BadRecord, NoProject, TooDeep, MoreLines}
@@ -61,7 +61,7 @@ pub record Passed (c : Call) (count : ℕ) : Type 0 where
   pub counted : length (report (project c)) ≡ count
 
 pub passed : (c : Call) (r : Reported c) → Passed c (r .count)
-unfolding answer
+unfolding answer lowest
 passed c r =
     let h = unrefused (bad-sizes (c .kinds) (c .words) (c .text)) (short-work (length (c .work))) (bad-name (c .text))
     (bad-record (length (names-of (c .text))) 0 (c .kinds) (c .words)) (no-project (records c)) (too-deep-at (records c))

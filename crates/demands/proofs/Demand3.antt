@@ -12,20 +12,20 @@ use Rattle.lustre.specs.Name.{Name, if_then_else_, _among_}
 use Rattle.lustre.specs.Names.{names-of, name-at}
 use Rattle.lustre.specs.Records.{Rec}
 use Rattle.lustre.specs.Project.{Node, Project, skeleton, all-nodes}
-use Rattle.lustre.specs.Grammar.{one, a-project, a-node, flat-project, flat-node}
+use Rattle.lustre.specs.Grammar.{one, a-project, a-node, flat-project}
 use Rattle.lustre.specs.Line.{Line, Place, at-package, at-enum, at-type, at-constant, at-node}
 use Rattle.lustre.specs.Report.{report}
 use Rattle.lustre.specs.Answer.{place-number, project-of, spelled}
 use Rattle.demands.specs.Parts.{node-part}
 use Rattle.demands.specs.Nodes.{keep, is-node, about-node, about-none}
-use Rattle.demands.specs.Reading.{Each, Writable, Writable-node, Writable-package, Tidy}
+use Rattle.demands.specs.Reading.{Each, Writable, Writable-node, Writable-package, Tidy, part-of}
 use Rattle.demands.specs.Demand3.{Call, Reported, records, Said, stray, lines-of, about, about-no-node, Demand-3, No-stray}
 use Rattle.demands.proofs.Known.{Known-records}
 use Rattle.demands.proofs.Eaches.{If-some, each-append}
 use Rattle.demands.proofs.Naming.{accepted-names}
 use Rattle.demands.proofs.Nodes.{judged-alone}
 use Rattle.demands.proofs.Reading.{same-parts, spelled-tidy, whole-project}
-use Rattle.demands.proofs.NodeParts.{node-parts, no-node-parts, same-skeleton}
+use Rattle.demands.proofs.NodeParts.{node-parts, same-skeleton}
 use Rattle.demands.proofs.RecordNames.{project-known, spelled-known}
 use Rattle.demands.proofs.ReportNames.{report-known}
 use Rattle.demands.proofs.Calls.{project, passed, reported-lines, spoken-name, spoken, said-lines}
@@ -62,11 +62,6 @@ unfolding spoken-name
 never-stray none w e = let z : _≡_ {A = ℕ} 0 1 = cc in omega arith
 never-stray (some x) w e = let z : _≡_ {A = ℕ} 0 1 = cc in omega arith
 
--- the records of a node, if there is one
-flat-maybe : Option Node → List Rec
-flat-maybe none = []
-flat-maybe (some n) = flat-node n []
-
 writable-at : (ns : List Node) (i : ℕ) → Each Writable-node ns → If-some Writable-node (getElem? ns i)
 writable-at [] i h = tt
 writable-at (n ∷ ns) zero h = h .0
@@ -82,8 +77,7 @@ unfolding spelled
 tidy c = spelled-tidy (name-at (names-of (c .text))) (c .kinds) (c .words)
 
 -- nodes of equal records are equal
-same-node : (m n : Option Node) → If-some Writable-node m → If-some Writable-node n → flat-maybe m ≡ flat-maybe n → m ≡ n
-unfolding flat-maybe
+same-node : (m n : Option Node) → If-some Writable-node m → If-some Writable-node n → part-of m ≡ part-of n → m ≡ n
 same-node none none v w e = refl
 same-node none (some n) v w e = cc
 same-node (some m) none v w e = cc
@@ -118,13 +112,9 @@ module _ (c : Call) (r : Reported c) where
     node-told = rw (lines-spoken, about-spoken i (report (project c)), judged-alone .node-is (project c) i)
 
     -- node i's records are the records of the tree's node i
-    part-is : node-part i (records c) ≡ flat-maybe node
-    unfolding project-of flat-maybe
-    part-is = go node refl
-      where
-        go : (o : Option Node) → node ≡ o → node-part i (records c) ≡ flat-maybe o
-        go none e = no-node-parts (records c) (tidy c) (passed c r .tree) i e
-        go (some n) e = node-parts (records c) (tidy c) (passed c r .tree) i n e
+    part-is : node-part i (records c) ≡ part-of node
+    unfolding project-of
+    part-is = node-parts (records c) (tidy c) (passed c r .tree) i
 
     writable : If-some Writable-node node
     writable = writable-at (all-nodes (project c)) i (writable-nodes (project c) (whole .0))

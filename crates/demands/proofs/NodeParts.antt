@@ -11,18 +11,13 @@ use Rattle.lustre.specs.Name.{if_then_else_, mem}
 use Rattle.lustre.specs.Records.{Rec}
 use Rattle.lustre.specs.Project.{NodeKind, Function, Operator, Imported, Node, Heading, PackageOf, Package, Project, heading, skeleton, all-nodes}
 use Rattle.lustre.specs.Grammar.{node-kind, numbered-rec, named-rec, each-of, list-of, flat-port, flat-decl, flat-constant, flat-node, flat-package, flat-project}
-use Rattle.lustre.specs.Grammar.{list, a-declaration, a-constant, a-port, read-project, whole}
-use Rattle.lustre.specs.Answer.{no-project, project-in}
+use Rattle.lustre.specs.Grammar.{list, a-declaration, a-constant, a-port}
+use Rattle.lustre.specs.Answer.{no-project, project-read}
 use Rattle.demands.specs.Parts.{View, all, lists, hidden, fewer, starts-node, ends-node, up-to-next, node-part, view, within, show, shown}
-use Rattle.demands.specs.Reading.{Each, Writable-node, Writable-package, Tidy, Node-parts, No-node-parts, Same-skeleton}
+use Rattle.demands.specs.Reading.{Each, Writable-node, Writable-package, Tidy, part-of, Node-parts, Same-skeleton}
 use Rattle.demands.proofs.Inside.{done, next, fewer-barred, up-to-next-in, node-part-in, hidden-in, all-in, lists-in, in-ports, in-body, in-node, in-opening}
 use Rattle.demands.proofs.ReadBack.{same-parts}
 use Rattle.demands.proofs.Reading.{whole-project}
-
--- the records of a node that there may be
-abbrev the-part : Option Node → List Rec
-the-part none = []
-the-part (some n) = flat-node n []
 
 -- the records of a node's heading, and with headings in place of nodes those of a package and a project
 abbrev outer-node : Node → List Rec → List Rec
@@ -40,7 +35,7 @@ outer-project P = numbered-rec 1 (length P) ∷ each-of outer-package P []
 -- the records k begin with a node or a package, if with any; their nodes are ms, and o is what is shown of them
 record Rest (k : List Rec) (ms : List Node) (o : List Rec) : Type 0 where
   ends : up-to-next k ≡ []
-  part : (i : ℕ) → node-part i k ≡ the-part (getElem? ms i)
+  part : (i : ℕ) → node-part i k ≡ part-of (getElem? ms i)
   seen : (s : View) → shown s k ≡ o
 
 starts : (c : NodeKind) → (starts-node (node-kind c) ≡ true) × (ends-node (node-kind c) ≡ true)
@@ -60,7 +55,7 @@ rest-node n {k} {o} {ms} h t = record {
   seen = λ s. rw (view-node s (n .kind), lists-in 1 (in-ports (n .inputs) (h .0)), lists-in 0 (in-ports (n .outputs) (h .1)), hidden-in (in-body n h), t .seen hidden);
 }
   where
-    part-at : (i : ℕ) → node-part i (flat-node n k) ≡ the-part (getElem? (n ∷ ms) i)
+    part-at : (i : ℕ) → node-part i (flat-node n k) ≡ part-of (getElem? (n ∷ ms) i)
     part-at zero = rw (starts (n .kind) .0, node-part) (rw (up-to-next-in (in-node n h) k, t .ends))
     part-at (suc i) = rw (starts (n .kind) .0, node-part) (node-part-in i (fewer-barred (in-node n h)) k ∙ t .part i)
 
@@ -86,7 +81,7 @@ rest-packages [] h = record { ends = refl; part = λ i. refl; seen = λ s. refl 
 rest-packages (p ∷ P) h = rest-package p (h .0) (rest-packages P (h .1))
 
 -- the walks over a whole project
-node-of : (P : Project) → Each Writable-package P → (i : ℕ) → node-part i (flat-project P []) ≡ the-part (getElem? (all-nodes P) i)
+node-of : (P : Project) → Each Writable-package P → (i : ℕ) → node-part i (flat-project P []) ≡ part-of (getElem? (all-nodes P) i)
 unfolding mem
 node-of P h i = node-part-in i (next (numbered-rec 1 (length P)) refl done) _ ∙ rest-packages P h .part i
 
@@ -152,21 +147,11 @@ skeleton-each (p ∷ P) = rw (skeleton-each P)
 same-outer : (P Q : Project) → Each Writable-package P → Each Writable-package Q → outer-project P ≡ outer-project Q → skeleton P ≡ skeleton Q
 same-outer P Q u v e = skeleton-each P ∙ (same-list outer-package headings Writable-package same-package 1 P Q [] [] u v e) .0 ∙ sym (skeleton-each Q)
 
--- the project that records are
-abbrev tree : List Rec → Project
-tree rs = project-in (whole (read-project rs))
-
-node-at : (rs : List Rec) → Tidy rs → no-project rs ≡ none → (i : ℕ) → node-part i rs ≡ the-part (getElem? (all-nodes (tree rs)) i)
-node-at rs t e i = ap (node-part i) (whole-project rs t e .1) ∙ node-of (tree rs) (whole-project rs t e .0) i
-
 pub node-parts : Node-parts
-node-parts rs t e i n q = node-at rs t e i ∙ ap the-part q
+node-parts rs t e i = ap (node-part i) (whole-project rs t e .1) ∙ node-of (project-read rs) (whole-project rs t e .0) i
 
-pub no-node-parts : No-node-parts
-no-node-parts rs t e i q = node-at rs t e i ∙ ap the-part q
-
-outer-at : (rs : List Rec) → Tidy rs → no-project rs ≡ none → shown all rs ≡ outer-project (tree rs)
-outer-at rs t e = ap (shown all) (whole-project rs t e .1) ∙ outer-of (tree rs) (whole-project rs t e .0)
+outer-at : (rs : List Rec) → Tidy rs → no-project rs ≡ none → shown all rs ≡ outer-project (project-read rs)
+outer-at rs t e = ap (shown all) (whole-project rs t e .1) ∙ outer-of (project-read rs) (whole-project rs t e .0)
 
 pub same-skeleton : Same-skeleton
-same-skeleton rs ss t u e d q = same-outer (tree rs) (tree ss) (whole-project rs t e .0) (whole-project ss u d .0) (sym (outer-at rs t e) ∙ q ∙ outer-at ss u d)
+same-skeleton rs ss t u e d q = same-outer (project-read rs) (project-read ss) (whole-project rs t e .0) (whole-project ss u d .0) (sym (outer-at rs t e) ∙ q ∙ outer-at ss u d)

@@ -2,10 +2,10 @@
 -- these or the next package (2); its first two lists (3) are inputs and outputs, and its locals, equations and probes begin at the third.
 -- Assumes nothing: these are definitions.
 use Prim.Native.Nat.{ℕ, zero, suc}
-use mathlib.Core.Bool.{Bool, true, false, _||_}
+use mathlib.Core.Bool.{Bool, true, false}
 use mathlib.Core.List.{List, [], _∷_}
 use lib.Dec.{eqb}
-use Rattle.lustre.specs.Name.{mem, if_then_else_}
+use Rattle.lustre.specs.Name.{mem}
 use Rattle.lustre.specs.Records.{Rec}
 
 abbrev pub starts-node : ℕ → Bool

@@ -4,18 +4,18 @@ use Prim.Native.Nat.{ℕ}
 use mathlib.Core.Path.{_≡_}
 use mathlib.Core.Bool.{true}
 use mathlib.Core.List.{List, [], _∷_, _++_}
-use mathlib.Core.Option.{none, some}
+use mathlib.Core.Option.{Option, none, some}
 use lib.Dec.{eqb}
 use lib.ListN.{getElem?}
 use Rattle.lustre.specs.Name.{Name, mem}
 use Rattle.lustre.specs.Records.{Rec, word-class, spell-as, spell}
 use Rattle.lustre.specs.Types.{Ty, basic, Array, Named}
 use Rattle.lustre.specs.Expr.{Expr, Exprs, Inits, const, var, unary, binary, ite, pre, arrow, call, field, index, tuple, array, struct, cast, when, merge, iterate, iterate-from, []ᵉ, _∷ᵉ_, []ⁱ, init}
-use Rattle.lustre.specs.Project.{Port, Decl, Alias, Record, Enum, Constant, Equation, Node, Package, Project, skeleton, all-nodes}
-use Rattle.lustre.specs.Grammar.{Sort, Class, one, list, Single, Tree, FieldValue, Got, got, read, read-project, whole, flat-part, flat-node, basic-kinds}
+use Rattle.lustre.specs.Project.{Port, Decl, Alias, Record, Enum, Constant, Equation, Node, Package, skeleton, all-nodes}
+use Rattle.lustre.specs.Grammar.{Sort, Class, one, list, Single, Tree, Got, got, read, flat-part, flat-node, basic-kinds}
 use Rattle.lustre.specs.Grammar.{a-project, a-package, a-declaration, a-constant, a-node, a-port, a-name, an-equation, a-type, an-expression, a-field-value}
-use Rattle.lustre.specs.Answer.{no-project, project-in}
-use Rattle.demands.specs.Parts.{View, all, shown, node-part}
+use Rattle.lustre.specs.Answer.{no-project, project-read}
+use Rattle.demands.specs.Parts.{all, shown, node-part}
 
 abbrev pub Each : {X : Type 0} → (X → Type 0) → List X → Type 0
 Each P [] = Unit {0}
@@ -117,19 +117,18 @@ Equal-parts = (c : Class) (v w : Tree c) (part j k : List Rec) → Tidy (part ++
 -- records that refusal 5 passes are the flattening of a project
 abbrev pub Whole-project : Type 0
 Whole-project = (rs : List Rec) → Tidy rs → no-project rs ≡ none
-    → Writable (one a-project) (project-in (whole (read-project rs))) × (rs ≡ flat-part (one a-project) (project-in (whole (read-project rs))) [])
+    → Writable (one a-project) (project-read rs) × (rs ≡ flat-part (one a-project) (project-read rs) [])
 
--- the records of node i are the flattening of the tree's node i
+-- the records of a node; none where there is none
+abbrev pub part-of : Option Node → List Rec
+part-of none = []
+part-of (some n) = flat-node n []
+
+-- the records of node i are the flattening of the tree's node i, and past the last node there are none
 abbrev pub Node-parts : Type 0
-Node-parts = (rs : List Rec) → Tidy rs → no-project rs ≡ none → (i : ℕ) (n : Node)
-    → getElem? (all-nodes (project-in (whole (read-project rs)))) i ≡ some n → node-part i rs ≡ flat-node n []
-
--- and past the last node there are none
-abbrev pub No-node-parts : Type 0
-No-node-parts = (rs : List Rec) → Tidy rs → no-project rs ≡ none → (i : ℕ)
-    → getElem? (all-nodes (project-in (whole (read-project rs)))) i ≡ none → node-part i rs ≡ []
+Node-parts = (rs : List Rec) → Tidy rs → no-project rs ≡ none → (i : ℕ) → node-part i rs ≡ part-of (getElem? (all-nodes (project-read rs)) i)
 
 -- projects whose records outside nodes' locals, equations and probes are equal have one skeleton
 abbrev pub Same-skeleton : Type 0
 Same-skeleton = (rs ss : List Rec) → Tidy rs → Tidy ss → no-project rs ≡ none → no-project ss ≡ none → shown all rs ≡ shown all ss
-    → skeleton (project-in (whole (read-project rs))) ≡ skeleton (project-in (whole (read-project ss)))
+    → skeleton (project-read rs) ≡ skeleton (project-read ss)

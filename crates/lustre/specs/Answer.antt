@@ -81,12 +81,26 @@ unfoldable pub project-in : Got Project → Project
 project-in (got P rest) = P
 project-in (stuck rest) = []
 
-unfoldable pub project-of : List ℕ → List ℕ → List ℕ → Project
-project-of kinds words text = project-in (whole (read-project (spelled kinds words text)))
+abbrev pub project-read : List Rec → Project
+project-read rs = project-in (whole (read-project rs))
 
-unfoldable pub refuse : Option ℕ → (ℕ → Answer) → Answer → Answer
+unfoldable pub project-of : List ℕ → List ℕ → List ℕ → Project
+project-of kinds words text = project-read (spelled kinds words text)
+
+unfoldable pub refuse : {A : Type 0} → Option ℕ → (ℕ → A) → A → A
 refuse none refusal rest = rest
 refuse (some at) refusal rest = refusal at
+
+-- the lowest of refusals 1 to 6 that applies, each with its place, or else the rest
+unfoldable pub lowest : {A : Type 0} (kinds words text : List ℕ) (work : ℕ) (one′ two three four five six : ℕ → A) → A → A
+lowest kinds words text work one′ two three four five six rest =
+    refuse (bad-sizes kinds words text) one′
+    (refuse (short-work work) two
+    (refuse (bad-name text) three
+    (refuse (bad-record (length (names-of text)) 0 kinds words) four
+    (refuse (no-project (spelled kinds words text)) five
+    (refuse (too-deep-at (spelled kinds words text)) six
+    rest)))))
 
 -- a report where the lines fit the room; else refusal 7 with the number needed
 unfoldable pub reported : ℕ → Project → Answer
@@ -95,13 +109,7 @@ reported room P = if leb (length (report P)) room then Report (length (report P)
 -- the lowest refusal that applies, and a report if none does
 unfoldable pub answer : (kinds words text : List ℕ) (work room : ℕ) → Answer
 answer kinds words text work room =
-    refuse (bad-sizes kinds words text) (λ at. Sizes)
-    (refuse (short-work work) ShortWork
-    (refuse (bad-name text) BadName
-    (refuse (bad-record (length (names-of text)) 0 kinds words) BadRecord
-    (refuse (no-project (spelled kinds words text)) NoProject
-    (refuse (too-deep-at (spelled kinds words text)) TooDeep
-    (reported room (project-of kinds words text)))))))
+    lowest kinds words text work (λ at. Sizes) ShortWork BadName BadRecord NoProject TooDeep (reported room (project-of kinds words text))
 
 -- a report or refusal 7: the answers after which lines are written and the work memory is zero
 unfoldable pub writes : Answer → Bool
