@@ -10,7 +10,6 @@ use lib.Dec.{eqb}
 use lib.ListN.{getElem?}
 use Rattle.lustre.specs.Name.{Name, if_then_else_, _among_}
 use Rattle.lustre.specs.Names.{names-of, name-at}
-use Rattle.lustre.specs.Records.{Rec}
 use Rattle.lustre.specs.Project.{Node, Project, skeleton, all-nodes}
 use Rattle.lustre.specs.Grammar.{one, a-project, a-node, flat-project}
 use Rattle.lustre.specs.Line.{Line, Place, at-package, at-enum, at-type, at-constant, at-node}

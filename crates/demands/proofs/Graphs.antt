@@ -5,7 +5,7 @@ use mathlib.Core.Path.{_≡_, refl, sym, _∙_, ap, subst}
 use mathlib.Core.Logic.{⊎-elim}
 use mathlib.Core.Bool.{Bool, true, false, true≢false}
 use mathlib.Core.List.{List, [], _∷_, _++_}
-use mathlib.Core.Option.{Option, none, some}
+use mathlib.Core.Option.{Option, none}
 use Rattle.lustre.specs.Name.{mem}
 use Rattle.lustre.specs.Walk.{from-first, closing, first-path, rust-scan, rust-dfs}
 use Rattle.demands.proofs.Sets.{clash, split, mustnt, Test, mem-ne, mem-later, mem-snoc, mem-self, mem-cases, from-eq, from-ne}

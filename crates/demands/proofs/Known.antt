@@ -1,8 +1,8 @@
 -- Where the names of lines come from: what it is for every name of a part of a project to satisfy K, and for a note of inference to be fine.
 -- Assumes nothing: these are definitions.
-use Prim.Native.Nat.{ℕ, _≤_}
+use Prim.Native.Nat.{_≤_}
 use mathlib.Core.Path.{_≡_}
-use mathlib.Core.List.{List, [], _∷_}
+use mathlib.Core.List.{List}
 use mathlib.Core.Option.{Option, none, some}
 use Rattle.lustre.specs.Name.{Name}
 use Rattle.lustre.specs.Records.{Rec, WordClass, no-word, a-name, a-count, a-length, a-truth, any-word, a-byte, word-class}

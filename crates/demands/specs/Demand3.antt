@@ -2,8 +2,8 @@
 -- Assumes nothing: these are definitions and the statement, proved in proofs/.
 use Prim.Native.Nat.{ℕ}
 use mathlib.Core.Path.{_≡_}
-use mathlib.Core.Bool.{Bool, true, false, _&&_, not}
-use mathlib.Core.List.{List, [], _∷_, map, List·Memᴰ}
+use mathlib.Core.Bool.{true, false, _&&_, not}
+use mathlib.Core.List.{List, map, List·Memᴰ}
 use lib.Dec.{eqb, ltb}
 use lib.ListN.{length, take}
 use Rattle.lustre.specs.Name.{Name}
@@ -11,7 +11,6 @@ use Rattle.lustre.specs.Names.{names-of, name-at}
 use Rattle.lustre.specs.Records.{Rec}
 use Rattle.lustre.specs.Answer.{answer, spelled, lines-after, no-value}
 use Rattle.lustre.specs.declared.Line.{Line}
-use Rattle.lustre.specs.declared.Answer.{Answer}
 use Rattle.lustre.specs.declared.Answer.the-variants.{Report}
 use Rattle.demands.specs.Parts.{all, shown, node-part}
 use Rattle.demands.specs.Nodes.{keep}

@@ -1,10 +1,10 @@
 -- Inference that gives no type has added an error; the codes and the names of inference's notes; integer ranges.
 -- Assumes nothing: these are statements, proved in proofs/.
-use Prim.Native.Nat.{ℕ, _≤_, _-_, _^_}
+use Prim.Native.Nat.{ℕ, _-_, _^_}
 use mathlib.Core.Path.{_≡_}
-use mathlib.Core.Bool.{Bool, true, false, _&&_}
-use mathlib.Core.List.{List, List·Memᴰ}
-use mathlib.Core.Option.{Option, none, some}
+use mathlib.Core.Bool.{Bool, _&&_}
+use mathlib.Core.List.{List·Memᴰ}
+use mathlib.Core.Option.{Option, none}
 use lib.IntN.{ℤ, pos, negℤ}
 use lib.Signed.{leZ, ltZ}
 use Rattle.lustre.specs.Types.{Ty, signed, unsigned}

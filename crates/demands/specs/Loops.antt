@@ -3,15 +3,13 @@
 -- Assumes nothing: these are definitions and statements, proved in proofs/.
 use Prim.Native.Nat.{ℕ, _≤_}
 use mathlib.Core.Path.{_≡_}
-use mathlib.Core.Logic.{_⊎_}
-use mathlib.Core.Bool.{Bool, true, false, _&&_}
 use mathlib.Core.List.{List, [], _∷_, _++_, map, List·Memᴰ}
-use mathlib.Core.Option.{Option, none, some}
+use mathlib.Core.Option.{some}
 use lib.Dec.{eqb}
 use lib.ListN.{length, getElem?}
-use Rattle.lustre.specs.Name.{Name, if_then_else_}
-use Rattle.lustre.specs.Project.{Equation, Node, NodeKind, Function, Operator, Imported, Project, all-nodes}
-use Rattle.lustre.specs.Line.{Line, Note, Place, at-package, at-enum, at-type, at-constant, at-node}
+use Rattle.lustre.specs.Name.{Name}
+use Rattle.lustre.specs.Project.{Equation, Node, Function, Operator, Imported, Project, all-nodes}
+use Rattle.lustre.specs.Line.{Line}
 use Rattle.lustre.specs.Deps.{reads}
 use Rattle.lustre.specs.Walk.{search, rust-search, path-of}
 use Rattle.lustre.specs.Node.{looks, path-notes, of-node}

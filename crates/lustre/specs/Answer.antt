@@ -9,7 +9,7 @@ use lib.ListN.{length, take, drop, replicate}
 use Rattle.lustre.specs.Name.{Name, if_then_else_}
 use Rattle.lustre.specs.Names.{bad-name, names-of, name-at, number-of}
 use Rattle.lustre.specs.Records.{Rec, bad-record, spell}
-use Rattle.lustre.specs.Grammar.{Got, got, stuck, Class, one, a-project, read-project, whole}
+use Rattle.lustre.specs.Grammar.{Got, got, stuck, one, a-project, read-project, whole}
 use Rattle.lustre.specs.Levels.{deep-record}
 use Rattle.lustre.specs.Project.{Project}
 use Rattle.lustre.specs.Line.{Place, at-package, at-enum, at-type, at-constant, at-node}

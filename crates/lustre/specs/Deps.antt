@@ -1,6 +1,5 @@
 -- `collect_immediate_deps`, lib.rs 1534: the names that an expression reads in the same instant, and the graph of a node's equations.
 -- Assumes nothing: these are definitions.
-use mathlib.Core.Bool.{Bool, true, false}
 use mathlib.Core.List.{List, [], _∷_, _++_}
 use Rattle.lustre.specs.Name.{Name, if_then_else_, _among_, set-of}
 use Rattle.lustre.specs.Expr.{Expr, Exprs, Inits, const, var, unary, binary, ite, pre, arrow, call, field, index, tuple, array, struct, cast, when, merge, iterate, iterate-from, []ᵉ, _∷ᵉ_, []ⁱ, init}

@@ -1,7 +1,7 @@
 -- The grammar of the records as one table of kinds, the reader of trees, and the flattening of trees to records: document 01, 'Records,
 -- in order of writing', refusal 5.
 -- Assumes nothing: these are definitions.
-use Prim.Native.Nat.{ℕ, zero, suc, _-_}
+use Prim.Native.Nat.{ℕ, zero, suc}
 use mathlib.Core.Bool.{Bool, true, false}
 use mathlib.Core.List.{List, [], _∷_, _++_, map}
 use mathlib.Core.Option.{Option, none, some}

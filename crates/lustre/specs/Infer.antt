@@ -2,12 +2,12 @@
 -- parts. A typing is what waits for a hint. `infer` at the end hands each rule its parts' typings, with their steps.
 -- Assumes nothing: these are definitions.
 use Prim.Native.Nat.{ℕ, suc, _+_}
-use mathlib.Core.Bool.{Bool, true, false, _&&_}
+use mathlib.Core.Bool.{Bool, true, _&&_}
 use mathlib.Core.List.{List, [], _∷_, map}
 use mathlib.Core.Option.{Option, none, some}
 use lib.Dec.{eqb, leb}
 use lib.ListN.{length}
-use lib.IntN.{ℤ, negℤ}
+use lib.IntN.{negℤ}
 use Rattle.lustre.specs.Name.{Name, if_then_else_, _among_, find}
 use Rattle.lustre.specs.Types.{Ty, basic, Array, Named, Boolean, Int32, tuple-type, unit-type, same-type, is-integer, is-numeric, is-bool, levels}
 use Rattle.lustre.specs.Expr.{Expr, Exprs, Inits, UnaryOp, Not, Neg, IterKind, Map, Fold, OpClass, Logic, Equality, Order, Arithmetic, Bitwise, op-class, Form, integer, temporal, iterator, other, form, size}

@@ -7,7 +7,7 @@ use mathlib.Core.List.{List, [], _∷_, _++_, map}
 use mathlib.Core.Option.{Option, none, some}
 use lib.Dec.{ltb}
 use Rattle.lustre.specs.Records.{Rec}
-use Rattle.lustre.specs.Grammar.{Sort, Class, Entry, one, list, follow, entries, entry}
+use Rattle.lustre.specs.Grammar.{Sort, Class, one, list, follow, entries, entry}
 use Rattle.lustre.specs.Grammar.{a-project, a-package, a-declaration, a-constant, a-node, a-port, a-name, an-equation, a-type, an-expression, a-field-value}
 
 -- the level of a sort's part behind a record of another sort at a level: a type in a type and an expression in an expression are one

@@ -1,7 +1,7 @@
 -- The types of literals: `fits_in_integer` by sign and width, lib.rs 696, `integer_literal_type`, lib.rs 1477, and lib.rs 721 to 729.
 -- Assumes nothing: these are definitions.
 use Prim.Native.Nat.{ℕ, _-_, _^_}
-use mathlib.Core.Bool.{Bool, true, false}
+use mathlib.Core.Bool.{Bool, false}
 use mathlib.Core.Option.{Option, none, some}
 use lib.Dec.{ltb}
 use lib.IntN.{ℤ, pos, negsuc}

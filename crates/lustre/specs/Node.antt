@@ -1,12 +1,12 @@
 -- `check_node`, lib.rs 331.
 -- Assumes nothing: these are definitions.
 use Prim.Native.Nat.{ℕ, suc}
-use mathlib.Core.Bool.{Bool, true, false, _&&_}
+use mathlib.Core.Bool.{false, _&&_}
 use mathlib.Core.List.{List, [], _∷_, _++_, map}
 use mathlib.Core.Option.{Option, none, some}
 use Rattle.lustre.specs.Name.{Name, if_then_else_, _among_, lookup}
 use Rattle.lustre.specs.Types.{Ty, is-tuple}
-use Rattle.lustre.specs.Expr.{Expr, contains-temporal}
+use Rattle.lustre.specs.Expr.{contains-temporal}
 use Rattle.lustre.specs.Project.{Port, NodeKind, Function, Operator, Imported, Equation, Node, is-function, port-names}
 use Rattle.lustre.specs.Line.{Note, Remark, plain, bare, about}
 use Rattle.lustre.specs.Resolve.{Scope, within-node, compatible}

@@ -1,7 +1,6 @@
 -- A project, `ol_ir/node.rs` and document 01's records. `PackageOf N` is a package whose nodes are of the type N, so that a package
 -- and the part of it that other nodes see, a heading in place of each node, have one form.
 -- Assumes nothing: these are definitions.
-use Prim.Native.Nat.{ℕ}
 use mathlib.Core.Bool.{Bool, true, false}
 use mathlib.Core.List.{List, [], _∷_, _++_, map}
 use Rattle.lustre.specs.Name.{Name}

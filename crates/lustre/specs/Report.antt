@@ -1,7 +1,7 @@
 -- `check_project`, lib.rs 134, and `check_constants`, lib.rs 262: the report of a project, and the number of edges followed.
 -- Assumes nothing: these are definitions.
 use Prim.Native.Nat.{ℕ, suc, _+_}
-use mathlib.Core.Bool.{Bool, true, false}
+use mathlib.Core.Bool.{true}
 use mathlib.Core.List.{List, [], _∷_, _++_, map}
 use mathlib.Core.Option.{Option, none, some}
 use Rattle.lustre.specs.Name.{Name, if_then_else_, _among_, lookup, set-of}

@@ -3,7 +3,7 @@
 -- `__tuple__` and `__unit__`, which are barred as names, so no declaration is ever found for them.
 -- Assumes nothing: these are definitions.
 use Prim.Native.Nat.{ℕ, _+_}
-use mathlib.Core.Bool.{Bool, true, false, _&&_}
+use mathlib.Core.Bool.{Bool, false, _&&_}
 use mathlib.Core.Option.{Option, none, some}
 use lib.Dec.{eqb, leb}
 use Rattle.lustre.specs.Name.{Name, if_then_else_, _is_}
