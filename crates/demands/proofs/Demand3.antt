@@ -3,12 +3,12 @@
 use Prim.Native.Nat.{ℕ, zero, suc}
 use native.Mathlib.Omega.{arith}
 use mathlib.Core.Path.{_≡_, refl, sym, _∙_, ap}
-use mathlib.Core.Bool.{Bool, true, false, _&&_, not}
+use mathlib.Core.Bool.{true, _&&_, not}
 use mathlib.Core.List.{List, [], _∷_, map, Memᴰ·of-map}
 use mathlib.Core.Option.{Option, none, some}
 use lib.Dec.{eqb}
 use lib.ListN.{getElem?}
-use Rattle.lustre.specs.Name.{Name, if_then_else_, _among_}
+use Rattle.lustre.specs.Name.{Name, _among_}
 use Rattle.lustre.specs.Names.{names-of, name-at}
 use Rattle.lustre.specs.Project.{Node, Project, skeleton, all-nodes}
 use Rattle.lustre.specs.Grammar.{one, a-project, a-node, flat-project}
@@ -16,9 +16,10 @@ use Rattle.lustre.specs.Line.{Line, Place, at-package, at-enum, at-type, at-con
 use Rattle.lustre.specs.Report.{report}
 use Rattle.lustre.specs.Answer.{place-number, project-of, spelled}
 use Rattle.demands.specs.Parts.{node-part}
-use Rattle.demands.specs.Nodes.{keep, is-node, about-node, about-none}
+use Rattle.demands.specs.Nodes.{is-node, about-node, about-none}
 use Rattle.demands.specs.Reading.{Each, Writable, Writable-node, Writable-package, Tidy, part-of}
 use Rattle.demands.specs.Demand3.{Call, Reported, records, Said, stray, lines-of, about, about-no-node, Demand-3, No-stray}
+use Rattle.demands.proofs.Keeps.{keep-map}
 use Rattle.demands.proofs.Known.{Known-records}
 use Rattle.demands.proofs.Eaches.{If-some, each-append}
 use Rattle.demands.proofs.Naming.{accepted-names}
@@ -28,15 +29,6 @@ use Rattle.demands.proofs.NodeParts.{node-parts, same-skeleton}
 use Rattle.demands.proofs.RecordNames.{project-known, spelled-known}
 use Rattle.demands.proofs.ReportNames.{report-known}
 use Rattle.demands.proofs.Calls.{project, passed, reported-lines, spoken-name, spoken, said-lines}
-
--- of an image, those whose test agrees with h on the originals are the image of those with h
-keep-map : {A B : Type 0} (f : B → Bool) (g : A → B) (h : A → Bool) → ((x : A) → f (g x) ≡ h x) → (xs : List A) → keep f (map g xs) ≡ map g (keep h xs)
-keep-map f g h e [] = refl
-keep-map f g h e (x ∷ xs) = rw (e x) (go (h x) (keep-map f g h e xs))
-  where
-    go : (t : Bool) → keep f (map g xs) ≡ map g (keep h xs) → (if t then g x ∷ keep f (map g xs) else keep f (map g xs)) ≡ map g (if t then x ∷ keep h xs else keep h xs)
-    go true r = ap (λ ys. g x ∷ ys) r
-    go false r = r
 
 -- place kind 4 is node
 four : (p : Place) → eqb (place-number p) 4 ≡ is-node p

@@ -1,23 +1,22 @@
--- The search of a node's equations: its path is a closed path of edges (`search-closed`), it finds one wherever there is one
--- (`search-finds`), the Rust's search finds the same (`search-rust`), and it looks at most once along each edge (`search-count`).
--- Assumes nothing.
-use Prim.Native.Nat.{ℕ, _≤_}
+-- The search of a node's equations: its path is a closed path of edges, it finds one wherever there is one, the Rust's search finds the
+-- same, and it looks at most once along each edge. Assumes nothing.
+use Prim.Native.Nat.{_≤_}
 use native.Mathlib.Nat.{le-refl}
-use mathlib.Core.Path.{_≡_, refl, sym, _∙_, ap, subst}
-use mathlib.Core.Logic.{_⊎_, inl, inr, ⊎-elim}
+use mathlib.Core.Path.{_≡_, refl, sym, ap, subst}
+use mathlib.Core.Logic.{⊎-elim}
 use mathlib.Core.Bool.{Bool, true, false}
-use mathlib.Core.List.{List, [], _∷_, _++_, map, List·Memᴰ, List·Memᴰ·head, List·Memᴰ·tail, List·Memᴰ·not-nil, List·Memᴰ·cases-cons, List·Memᴰ·append-cases, Memᴰ·cast, Memᴰ·append-left, Memᴰ·append-right, Memᴰ·map, Memᴰ·of-map}
-use mathlib.Core.Option.{Option, none, some}
+use mathlib.Core.List.{List, [], _∷_, _++_, List·Memᴰ, List·Memᴰ·head, List·Memᴰ·tail, List·Memᴰ·not-nil, List·Memᴰ·append-cases, Memᴰ·cast, Memᴰ·append-left, Memᴰ·append-right, Memᴰ·map, Memᴰ·of-map}
+use mathlib.Core.Option.{none, some}
 use lib.ListN.{length}
-use Rattle.lustre.specs.Name.{Name, mem, _is_, _among_, set-of, if_then_else_}
+use Rattle.lustre.specs.Name.{Name, _is_, _among_, set-of, if_then_else_}
 use Rattle.lustre.specs.Project.{Equation, Operator}
 use Rattle.lustre.specs.Deps.{reads, defined, read-in, read-by, successors}
 use Rattle.lustre.specs.Walk.{path-of, graph-names, search, rust-search}
 use Rattle.lustre.specs.Node.{looks}
 use Rattle.demands.specs.Loops.{Edge, Along, Closed, Distinct, Edges}
 use Rattle.demands.proofs.Sets.{mem-in, in-mem}
-use Rattle.demands.proofs.Graphs.{Chain, Loop}
-use Rattle.demands.proofs.Orders.{is-test, in-set, set-in, set-rising, rising-distinct}
+use Rattle.demands.proofs.Graphs.{Chain}
+use Rattle.demands.proofs.Orders.{is-test, in-set, set-in, set-distinct}
 use Rattle.demands.proofs.Search.{row, pairs, Walked, walked}
 
 among-in : (a : Name) (l : List Name) → (a among l) ≡ true → List·Memᴰ a l
@@ -40,8 +39,11 @@ module _ {X Y : Type 0} (part : X → List Y) (join : List X → List Y) (none-j
       (λ n. let r = joined-in xs y n in (r .0, List·Memᴰ·tail (r .1), r .2))
       (List·Memᴰ·append-cases (part x) (subst (List·Memᴰ y) (joined x xs) m))
 
+-- what an equation lets a read
+abbrev read-at : Name → Equation → List Name
+read-at a q = if a among q .lhs then reads (q .rhs) else []
+
 module _ (qs : List Equation) where
-  -- a name that is read
   read-somewhere : (q : Equation) (b : Name) → List·Memᴰ q qs → List·Memᴰ b (reads (q .rhs)) → List·Memᴰ b (read-in qs)
   unfolding read-in
   read-somewhere q b = in-joined (λ (q : Equation). reads (q .rhs)) read-in refl (λ q qs. refl)
@@ -54,7 +56,7 @@ module _ (qs : List Equation) where
   pub successor-edge : (a b : Name) → (b among successors qs a) ≡ true → Edge qs a b
   unfolding successors read-by
   successor-edge a b m =
-      let r = joined-in (λ (q : Equation). if a among q .lhs then reads (q .rhs) else []) (read-by a) refl (λ q qs. refl) qs b (set-in b (read-by a qs) (among-in b (successors qs a) m)) in
+      let r = joined-in (read-at a) (read-by a) refl (λ q qs. refl) qs b (set-in b (read-by a qs) (among-in b (successors qs a) m)) in
       let p = assigned (r .0) (a among r .0 .lhs) refl (r .2) in
       (r .0, r .1, p .0, p .1)
     where
@@ -65,7 +67,7 @@ module _ (qs : List Equation) where
   pub edge-successor : (a b : Name) → Edge qs a b → (b among successors qs a) ≡ true
   unfolding successors read-by
   edge-successor a b e =
-      in-among (in-set b (read-by a qs) (in-joined (λ (q : Equation). if a among q .lhs then reads (q .rhs) else []) (read-by a) refl (λ q qs. refl) (e .1) (rw (in-among (e .2)) (e .3))))
+      in-among (in-set b (read-by a qs) (in-joined (read-at a) (read-by a) refl (λ q qs. refl) (e .1) (rw (in-among (e .2)) (e .3))))
 
   -- a chain of successors is a chain of edges
   chain-along : (x : Name) (l : List Name) → Chain _is_ (successors qs) x l → Along qs x l
@@ -117,10 +119,15 @@ distinct-append [] t p q apart = q
 distinct-append (x ∷ s) t p q apart =
     (λ m. ⊎-elim (p .0) (apart x (List·Memᴰ·head refl)) (List·Memᴰ·append-cases s m), distinct-append s t (p .1) q (λ y m n. apart y (List·Memᴰ·tail m) n))
 
-module _ {A : Type 0} (succ : A → List A) where
-  row-in : (x : A) (l : List A) (a b : A) → List·Memᴰ (a, b) (row x l) → (a ≡ x) × List·Memᴰ b l
-  row-in x l a b m = let r = Memᴰ·of-map (λ (y : A). (x, y)) l m in (sym (ap (λ p. p .0) (r .2)), Memᴰ·cast (sym (ap (λ p. p .1) (r .2))) (r .1))
+row-in : {A : Type 0} (x : A) (l : List A) (a b : A) → List·Memᴰ (a, b) (row x l) → (a ≡ x) × List·Memᴰ b l
+row-in {A} x l a b m = let r = Memᴰ·of-map (λ (y : A). (x, y)) l m in (sym (ap (λ p. p .0) (r .2)), Memᴰ·cast (sym (ap (λ p. p .1) (r .2))) (r .1))
 
+distinct-row : {A : Type 0} (x : A) (l : List A) → Distinct l → Distinct (row x l)
+unfolding Distinct
+distinct-row x [] d = tt
+distinct-row x (y ∷ l) d = (λ m. d .0 (row-in x l x y m .1), distinct-row x l (d .1))
+
+module _ {A : Type 0} (succ : A → List A) where
   pairs-in : (u : List A) (a b : A) → List·Memᴰ (a, b) (pairs succ u) → List·Memᴰ a u × List·Memᴰ b (succ a)
   unfolding pairs
   pairs-in u a b m =
@@ -131,11 +138,6 @@ module _ {A : Type 0} (succ : A → List A) where
   in-pairs : (u : List A) (a b : A) → List·Memᴰ a u → List·Memᴰ b (succ a) → List·Memᴰ (a, b) (pairs succ u)
   unfolding pairs
   in-pairs u a b i m = in-joined (λ (x : A). row x (succ x)) (pairs succ) refl (λ x u. refl) i (Memᴰ·map (λ (y : A). (a, y)) m)
-
-  distinct-row : (x : A) (l : List A) → Distinct l → Distinct (row x l)
-  unfolding Distinct
-  distinct-row x [] d = tt
-  distinct-row x (y ∷ l) d = (λ m. d .0 (row-in x l x y m .1), distinct-row x l (d .1))
 
   -- the edges that leave a list of names, each once
   distinct-pairs : ((x : A) → Distinct (succ x)) → (u : List A) → Distinct u → Distinct (pairs succ u)
@@ -152,15 +154,14 @@ module _ {A : Type 0} (succ : A → List A) where
 -- at most one look along each edge
 pub search-count : (qs : List Equation) → (es : List (Name × Name)) × Edges qs es × (looks Operator qs ≤ length es)
 unfolding search looks graph-names successors
-search-count qs =
-    let set-distinct : (l : List Name) → Distinct (set-of l) = λ l. rising-distinct (set-of l) (set-rising l) in (
-      pairs (successors qs) (graph-names qs),
-      record {
-        once = distinct-pairs (successors qs) (λ a. set-distinct (read-by a qs)) (graph-names qs) (set-distinct (defined qs ++ read-in qs));
-        sound = λ a b m. successor-edge qs a b (in-among (pairs-in (successors qs) (graph-names qs) a b m .1));
-        complete = λ a b e.
-            let m = edge-successor qs a b e in
-            in-pairs (successors qs) (graph-names qs) a b (among-in a (graph-names qs) (starts-within qs a (edges-start qs a b m))) (among-in b (successors qs a) m);
-      },
-      searched qs .looks,
-    )
+search-count qs = (
+  pairs (successors qs) (graph-names qs),
+  record {
+    once = distinct-pairs (successors qs) (λ a. set-distinct (read-by a qs)) (graph-names qs) (set-distinct (defined qs ++ read-in qs));
+    sound = λ a b m. successor-edge qs a b (in-among (pairs-in (successors qs) (graph-names qs) a b m .1));
+    complete = λ a b e.
+        let m = edge-successor qs a b e in
+        in-pairs (successors qs) (graph-names qs) a b (among-in a (graph-names qs) (starts-within qs a (edges-start qs a b m))) (among-in b (successors qs a) m);
+  },
+  searched qs .looks,
+)

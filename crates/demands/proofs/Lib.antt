@@ -5,11 +5,13 @@ pub mod Orders
 pub mod Graphs
 pub mod Search
 pub mod Edges
+pub mod Keeps
 pub mod Notes
 pub mod Speaks
 pub mod Ranges
 pub mod Naming
 pub mod Nodes
+pub mod Loops
 pub mod ReadBack
 pub mod FlatBack
 pub mod Reading

@@ -4,26 +4,17 @@ use Prim.Native.Nat.{ℕ, zero, suc, _+_, _<_}
 use native.Mathlib.Nat.{add-zero, zero-add, add-suc, suc-add}
 use native.Mathlib.Omega.{arith}
 use mathlib.Core.Path.{_≡_, refl, ap}
-use mathlib.Core.Bool.{Bool, true, false}
 use mathlib.Core.List.{List, [], _∷_, _++_, map, append-nil}
 use mathlib.Core.Option.{Option, none, some}
 use lib.ListN.{getElem?}
 use borrow.Author.Tests.{eq-eqb, ne-eqb}
-use Rattle.lustre.specs.Name.{if_then_else_}
-use Rattle.lustre.specs.Project.{Node, skeleton, all-nodes}
+use Rattle.lustre.specs.Project.{Node, Project, skeleton, all-nodes}
 use Rattle.lustre.specs.Line.{Line, Remark}
 use Rattle.lustre.specs.Resolve.{Scope, context}
 use Rattle.lustre.specs.Node.{node-remarks}
 use Rattle.lustre.specs.Report.{report, opening, of-place, node-lines, nodes-lines}
-use Rattle.demands.specs.Nodes.{keep, about-node, about-none, Judged-alone}
-
-keep-append : {A : Type 0} (f : A → Bool) (xs ys : List A) → keep f (xs ++ ys) ≡ keep f xs ++ keep f ys
-keep-append f [] ys = refl
-keep-append f (x ∷ xs) ys = go (f x) (keep-append f xs ys)
-  where
-    go : (b : Bool) → keep f (xs ++ ys) ≡ keep f xs ++ keep f ys → (if b then x ∷ keep f (xs ++ ys) else keep f (xs ++ ys)) ≡ (if b then x ∷ keep f xs else keep f xs) ++ keep f ys
-    go true e = ap (λ r. x ∷ r) e
-    go false e = e
+use Rattle.demands.specs.Nodes.{about-node, about-none, Judged-alone}
+use Rattle.demands.proofs.Keeps.{keep-append}
 
 -- the lines of node k are all about it, and about no other node; and none is about no node
 own : (k : ℕ) (rs : List Remark) → about-node k (map (of-place k) rs) ≡ map (of-place k) rs
@@ -48,7 +39,7 @@ before Γ i k h [] = refl
 before Γ i k h (n ∷ ns) = rw (keep-append, other i k (omega arith) (node-remarks Γ n), before Γ i (suc k) (omega arith) ns)
 
 -- the lines of the node that is number i, if there is one
-own-lines : Scope → ℕ → Option Node → List Line
+unfoldable pub own-lines : Scope → ℕ → Option Node → List Line
 own-lines Γ i none = []
 own-lines Γ i (some n) = node-lines Γ i n
 
@@ -63,11 +54,16 @@ unfolding nodes-lines node-lines
 all-about-nodes Γ k [] = refl
 all-about-nodes Γ k (n ∷ ns) = rw (keep-append, at-nodes k (node-remarks Γ n)) (all-about-nodes Γ (suc k) ns)
 
+-- the lines about node i
+pub lines-about : (P : Project) (i : ℕ) → about-node i (report P) ≡ about-node i (opening (skeleton P)) ++ own-lines (context (skeleton P)) i (getElem? (all-nodes P) i)
+unfolding report
+lines-about P i = rw keep-append (ap (λ r. about-node i (opening (skeleton P)) ++ r) (rw zero-add at (picked (context (skeleton P)) 0 i (all-nodes P))))
+
 pub judged-alone : Judged-alone
 unfolding report
 judged-alone = record {
   node-law = λ s i n. about-node i (opening s) ++ own-lines (context s) i n;
-  node-is = λ P i. rw keep-append (ap (λ r. about-node i (opening (skeleton P)) ++ r) (rw zero-add at (picked (context (skeleton P)) 0 i (all-nodes P))));
+  node-is = lines-about;
   none-law = λ s. about-none (opening s);
   none-is = λ P. rw (keep-append, all-about-nodes (context (skeleton P)) 0 (all-nodes P), append-nil);
 }

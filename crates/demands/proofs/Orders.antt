@@ -29,20 +29,20 @@ compared (suc x) (suc y) o e = one-more o (compared x y o (sym (compare·suc-suc
     one-more Ordering·eq h = ap suc h
     one-more Ordering·gt h = omega arith
 
--- of the three one holds
+-- of the three only one holds
 compare-is : (x y : ℕ) (o : Ordering) → Compared o x y → compare x y ≡ o
-compare-is x y o h = go o (compare x y) refl h (compared x y (compare x y) refl)
+compare-is x y o h = go o (compare x y) h (compared x y (compare x y) refl)
   where
-    go : (o p : Ordering) → compare x y ≡ p → Compared o x y → Compared p x y → p ≡ o
-    go Ordering·lt Ordering·lt e h k = refl
-    go Ordering·lt Ordering·eq e h k = absurd (omega arith)
-    go Ordering·lt Ordering·gt e h k = absurd (omega arith)
-    go Ordering·eq Ordering·lt e h k = absurd (omega arith)
-    go Ordering·eq Ordering·eq e h k = refl
-    go Ordering·eq Ordering·gt e h k = absurd (omega arith)
-    go Ordering·gt Ordering·lt e h k = absurd (omega arith)
-    go Ordering·gt Ordering·eq e h k = absurd (omega arith)
-    go Ordering·gt Ordering·gt e h k = refl
+    go : (o p : Ordering) → Compared o x y → Compared p x y → p ≡ o
+    go Ordering·lt Ordering·lt h k = refl
+    go Ordering·lt Ordering·eq h k = absurd (omega arith)
+    go Ordering·lt Ordering·gt h k = absurd (omega arith)
+    go Ordering·eq Ordering·lt h k = absurd (omega arith)
+    go Ordering·eq Ordering·eq h k = refl
+    go Ordering·eq Ordering·gt h k = absurd (omega arith)
+    go Ordering·gt Ordering·lt h k = absurd (omega arith)
+    go Ordering·gt Ordering·eq h k = absurd (omega arith)
+    go Ordering·gt Ordering·gt h k = refl
 
 -- the right-hand side of `order` at two first bytes that compare so
 abbrev by-first : Name → Name → Ordering → Ordering
@@ -51,6 +51,7 @@ by-first xs ys o = elim o [ Ordering·lt ↦ Ordering·lt | Ordering·eq ↦ ord
 gt-is-not-lt : Ordering·gt ≡ Ordering·lt → ⊥
 gt-is-not-lt e = let z : _≡_ {A = ℕ} 0 1 = cc in omega arith
 
+-- a name is before another if its first byte is the less, or the first bytes are the same and the rest is before the rest
 module _ (x : ℕ) (xs : Name) (y : ℕ) (ys : Name) where
   before-cases : order (x ∷ xs) (y ∷ ys) ≡ Ordering·lt → (x < y) ⊎ ((x ≡ y) × (order xs ys ≡ Ordering·lt))
   unfolding order
@@ -120,7 +121,7 @@ order-turned (x ∷ xs) (y ∷ ys) = go (compare x y) refl (order-turned xs ys)
     go Ordering·eq c ih = rw (compare-is y x Ordering·eq (sym (compared x y Ordering·eq c)), order) ih
     go Ordering·gt c ih = rw (compare-is y x Ordering·lt (compared x y Ordering·gt c), order)
 
--- a name that is above another is not below it, nor itself
+-- no name is before itself
 pub not-before-itself : (a : Name) → order a a ≡ Ordering·lt → ⊥
 not-before-itself a h = false≢true (ap isEq (sym h ∙ order-self a))
 
@@ -140,12 +141,12 @@ is-self a = ap isEq (order-self a)
 pub is-test : Test _is_
 is-test = record { same = is-same; self = is-self }
 
--- each name above all before it
+-- each name before all that follow it
 unfoldable pub Rising : List Name → Type 0
 Rising [] = Unit {0}
 Rising (a ∷ l) = ((b : Name) → List·Memᴰ b l → order a b ≡ Ordering·lt) × Rising l
 
-pub rising-distinct : (l : List Name) → Rising l → Distinct l
+rising-distinct : (l : List Name) → Rising l → Distinct l
 unfolding Rising Distinct
 rising-distinct [] r = tt
 rising-distinct (a ∷ l) r = (λ m. not-before-itself a (r .0 a m), rising-distinct l (r .1))
@@ -202,6 +203,9 @@ pub set-rising : (l : List Name) → Rising (set-of l)
 unfolding set-of Rising
 set-rising [] = tt
 set-rising (a ∷ l) = into-rising a (set-of l) (set-rising l)
+
+pub set-distinct : (l : List Name) → Distinct (set-of l)
+set-distinct l = rising-distinct (set-of l) (set-rising l)
 
 into-length : (a : Name) (l : List Name) → length (into-set a l) ≤ suc (length l)
 unfolding into-set
