@@ -1,13 +1,12 @@
 -- Byte order: `_is_` is a test of equality, `order` is a strict order, and `set-of` gives the members of its list in that order, none
 -- twice. Assumes nothing.
-use Prim.Native.Nat.{ℕ, zero, suc, _≤_, _<_, zero-le, compare, Ordering, Ordering·lt, Ordering·eq, Ordering·gt, compare·zero-zero, compare·zero-suc, compare·suc-zero, compare·suc-suc}
+use Prim.Native.Nat.{ℕ, zero, suc, _<_, compare, Ordering, Ordering·lt, Ordering·eq, Ordering·gt, compare·zero-zero, compare·zero-suc, compare·suc-zero, compare·suc-suc}
 use native.Mathlib.Omega.{arith}
 use mathlib.Core.Path.{_≡_, refl, sym, _∙_, ap, subst}
 use mathlib.Core.Logic.{_⊎_, inl, inr, ⊎-elim}
 use mathlib.Core.Bool.{true, false≢true}
 use mathlib.Core.List.{List, [], _∷_, List·Memᴰ, List·Memᴰ·head, List·Memᴰ·tail, List·Memᴰ·not-nil, List·Memᴰ·cases-cons, List·Memᴰ·eq-of-singleton}
 use lib.Dec.{isEq}
-use lib.ListN.{length}
 use Rattle.lustre.specs.Name.{Name, order, _is_, into-set, set-of}
 use Rattle.demands.specs.Loops.{Distinct}
 use Rattle.demands.proofs.Sets.{Test}
@@ -206,18 +205,3 @@ set-rising (a ∷ l) = into-rising a (set-of l) (set-rising l)
 
 pub set-distinct : (l : List Name) → Distinct (set-of l)
 set-distinct l = rising-distinct (set-of l) (set-rising l)
-
-into-length : (a : Name) (l : List Name) → length (into-set a l) ≤ suc (length l)
-unfolding into-set
-into-length a [] = omega arith
-into-length a (b ∷ l) = go (order a b) (into-length a l)
-  where
-    go : (o : Ordering) → length (into-set a l) ≤ suc (length l) → length (placed a b l o) ≤ suc (suc (length l))
-    go Ordering·lt ih = omega arith
-    go Ordering·eq ih = omega arith
-    go Ordering·gt ih = omega arith
-
-pub set-length : (l : List Name) → length (set-of l) ≤ length l
-unfolding set-of
-set-length [] = zero-le
-set-length (a ∷ l) = let ih : length (set-of l) ≤ length l = set-length l in omega (arith, into-length a (set-of l))
