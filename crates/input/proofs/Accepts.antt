@@ -1,0 +1,76 @@
+-- Accepted input has what specs/Accepted.antt says: no refusal applies to it, so its sizes, names, words, records and levels are in order.
+-- Assumes nothing.
+use Prim.Native.Nat.{ℕ, _≤_}
+use native.Mathlib.Omega.{arith}
+use mathlib.Core.Path.{_≡_, refl, ap, sym, _∙_}
+use mathlib.Core.Bool.{Bool, true, false, _&&_, and-eq-true-iff}
+use mathlib.Core.List.{List, []}
+use mathlib.Core.Option.{Option, none, some}
+use lib.Dec.{eqb, leb}
+use lib.ListN.{length}
+use borrow.Author.Tests.{eqb-true, leb-true}
+use Rattle.lustre.specs.Name.{if_then_else_}
+use Rattle.lustre.specs.Names.{names-of, name-at}
+use Rattle.lustre.specs.Records.{spell}
+use Rattle.lustre.specs.Grammar.{one, a-project, flat-part}
+use Rattle.lustre.specs.Answer.{lowest, refuse, bad-sizes, too-deep-at, spelled, project-of}
+use Rattle.demands.proofs.Naming.{accepted-names}
+use Rattle.demands.proofs.Reading.{spelled-tidy, whole-project}
+use Rattle.records.proofs.Spells.{spell-kinds, spell-past}
+use Rattle.input.specs.Input.{judged}
+use Rattle.input.specs.Accepted.{Accepts}
+use Rattle.input.specs.declared.Input.the-variants.{Accepted, Sizes, ShortWork, BadName, BadRecord, NoProject, TooDeep}
+use Rattle.input.proofs.Shallow.{project-shallow}
+use Rattle.input.proofs.Numbers.{short-names, numbered, ranged, same-spelling}
+
+-- where the answer accepts, no refusal applies
+unrefused : (a b c d e f : Option ℕ) (m n : ℕ)
+    → refuse a (λ at. Sizes) (refuse b ShortWork (refuse c BadName (refuse d BadRecord (refuse e NoProject (refuse f TooDeep (Accepted m)))))) ≡ Accepted n
+    → (a ≡ none) × (c ≡ none) × (d ≡ none) × (e ≡ none) × (f ≡ none)
+unfolding refuse
+unrefused none none none none none none m n q = (refl, refl, refl, refl, refl)
+unrefused (some at) b c d e f m n q = (cc, cc, cc, cc, cc)
+unrefused none (some at) c d e f m n q = (cc, cc, cc, cc, cc)
+unrefused none none (some at) d e f m n q = (cc, cc, cc, cc, cc)
+unrefused none none none (some at) e f m n q = (cc, cc, cc, cc, cc)
+unrefused none none none none (some at) f m n q = (cc, cc, cc, cc, cc)
+unrefused none none none none none (some at) m n q = (cc, cc, cc, cc, cc)
+
+-- a test that refuses where it is false is true where it does not refuse
+held : (t : Bool) → _≡_ {A = Option ℕ} (if t then none else some 0) none → t ≡ true
+held true q = refl
+held false q = cc
+
+-- where refusal 1 passes there are as many words as kinds, and few of both
+sized : (ks ws text : List ℕ) → bad-sizes ks ws text ≡ none → (length ks ≡ length ws) × (length ks ≤ 4096)
+unfolding bad-sizes
+sized ks ws text q =
+    let all = and-eq-true-iff (eqb (length ks) (length ws) && leb (length ks) 4096) (leb (length text) 16384) .0 (held _ q) in
+    let few = and-eq-true-iff (eqb (length ks) (length ws)) (leb (length ks) 4096) .0 (all .0) in
+    (eqb-true (length ks) (length ws) (few .0), leb-true (length ks) 4096 (few .1))
+
+-- so accepted input has each of the facts
+pub accepts : Accepts
+unfolding judged lowest spelled project-of
+accepts ks ws text work n q =
+    let h = unrefused _ _ _ _ _ _ (length (names-of text)) n q in
+    let size = sized ks ws text (h .0) in
+    let names = accepted-names text (h .1) in
+    let numbering = numbered (names-of text) names (short-names text (h .1)) in
+    let P = project-of ks ws text in
+    let tree = whole-project (spelled ks ws text) (spelled-tidy (name-at (names-of text)) ks ws) (h .3) in
+    let same : spell (numbering .text) ks ws ≡ flat-part (one a-project) P [] = same-spelling (numbering .text) (name-at (names-of text)) (length (names-of text)) (numbering .is) 0 ks ws (h .2) ∙ tree .1 in
+    record {
+      same = size .0;
+      few = size .1;
+      names = names;
+      numbering = numbering;
+      ranged = ranged (length (names-of text)) 0 ks ws (size .0) (h .2);
+      stands = record {
+        flat = same ∙ ap (flat-part (one a-project) P) (sym (spell-past (numbering .text) ks ws (length ks) (omega arith)));
+        before = omega (arith, spell-kinds (numbering .text) ks ws, ap length same);
+        within = omega arith;
+        writable = tree .0;
+      };
+      shallow = project-shallow P (tree .0) (ap too-deep-at (sym (tree .1)) ∙ h .4);
+    }

@@ -1,0 +1,4 @@
+pub mod Shallow
+pub mod Numbers
+pub mod Accepts
+pub mod Judges

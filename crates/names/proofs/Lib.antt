@@ -1,0 +1,4 @@
+-- Laws that belong to no one function.
+pub mod Orders
+pub mod Pieces
+pub mod Checks

@@ -1,0 +1,10 @@
+pub mod Spells
+pub mod Grammar
+pub mod Levels
+pub mod Steps
+pub mod Passes
+pub mod Words
+pub mod Agree
+pub mod Projects
+pub mod Parts
+pub mod Ends
