@@ -1,0 +1,12 @@
+pub mod Bits
+pub mod Rows
+pub mod Stores
+pub mod Clauses
+pub mod Place
+pub mod Steps
+pub mod Fuel
+pub mod Rename
+pub mod Order
+pub mod Texts
+pub mod Starts
+pub mod Examples
