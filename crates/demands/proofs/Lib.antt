@@ -3,6 +3,7 @@ pub mod Eaches
 pub mod Sets
 pub mod Orders
 pub mod Graphs
+pub mod Clauses
 pub mod Search
 pub mod Edges
 pub mod Keeps

@@ -2,7 +2,7 @@
 -- it finds one wherever there is one, its path is the Rust's, and it looks along each edge at most once. Assumes nothing.
 use Prim.Native.Nat.{ℕ, zero, suc, _+_, _≤_, zero-le}
 use native.Mathlib.Omega.{arith}
-use native.Mathlib.Nat.{le-trans, zero-add}
+use native.Mathlib.Nat.{le-trans}
 use mathlib.Core.Path.{_≡_, refl, sym, _∙_, ap, ap₂, subst}
 use mathlib.Core.Logic.{_⊎_, inl, inr, ⊎-elim}
 use mathlib.Core.Bool.{Bool, true, false, true≢false}
@@ -12,6 +12,7 @@ use lib.ListN.{length, length-append, length-map}
 use Rattle.lustre.specs.Name.{mem}
 use Rattle.lustre.specs.Walk.{Search, found, clear, more, after, path-of, looks-of, closing, scan, starts, enter, walk, first-path, rust-scan, rust-dfs, rust-walk}
 use Rattle.demands.proofs.Sets.{clash, split, mustnt, Test, mem-later, mem-snoc, mem-self, mem-cases, left, left-less, left-drop}
+use Rattle.demands.proofs.Clauses.{Going, more-none, scan-going, starts-going}
 use Rattle.demands.proofs.Graphs.{Apart, Chain, Steps, Loop, Topo, steps-snoc, closing-loop, topo-acyclic, rust-cleared}
 
 -- the edges that leave x, and those that leave the names of u
@@ -31,11 +32,6 @@ pub record Walked {A : Type 0} (eq : A → A → Bool) (succ : A → List A) (un
   pub rust : rust-walk eq succ (suc f) vs ≡ path-of (walk eq succ f vs)
   -- each edge is looked along at most once
   pub looks : looks-of (walk eq succ f vs) ≤ length (pairs succ univ)
-
-more-none : {A : Type 0} (o : Search A) → more 0 o ≡ o
-unfolding more
-more-none (found c n) = ap (found c) (zero-add n)
-more-none (clear cl n) = ap (clear cl) (zero-add n)
 
 module _ {A : Type 0} (eq : A → A → Bool) where
   -- a name is taken where it is on the path or cleared
@@ -58,31 +54,14 @@ module _ {A : Type 0} (eq : A → A → Bool) where
 
   -- `go` looks at each of a list of names behind the path: k looks a name, in all at most `most`
   record Goes (rec : List A → A → List A → Search A) (path : List A) (k : ℕ) (most : List A → ℕ) (go : List A → List A → Search A) : Type 0 where
-    ends : (cl : List A) → go [] cl ≡ clear cl 0
-    loop : (s : A) (ss cl : List A) → mem eq s path ≡ true → go (s ∷ ss) cl ≡ found (closing eq s path) k
-    skip : (s : A) (ss cl : List A) → mem eq s path ≡ false → mem eq s cl ≡ true → go (s ∷ ss) cl ≡ more k (go ss cl)
-    entry : (s : A) (ss cl : List A) → mem eq s path ≡ false → mem eq s cl ≡ false → go (s ∷ ss) cl ≡ more k (after (rec path s cl) (λ cl′. go ss (s ∷ cl′)))
+    clauses : Going eq rec path k go
     cost : (s : A) (ss : List A) → k + most ss ≤ most (s ∷ ss)
 
   scan-goes : (rec : List A → A → List A → Search A) (path : List A) → Goes rec path 1 length (scan eq rec path)
-  unfolding scan
-  scan-goes rec path = record {
-    ends = λ cl. refl;
-    loop = λ s ss cl e. rw (e, scan);
-    skip = λ s ss cl e i. rw (e, i, scan);
-    entry = λ s ss cl e i. rw (e, i, scan);
-    cost = λ s ss. omega arith;
-  }
+  scan-goes rec path = record { clauses = scan-going eq rec path; cost = λ s ss. omega arith }
 
   starts-goes : (rec : List A → A → List A → Search A) → Goes rec [] 0 (λ _. 0) (starts eq rec)
-  unfolding starts mem
-  starts-goes rec = record {
-    ends = λ cl. refl;
-    loop = λ s ss cl e. absurd (true≢false (sym e));
-    skip = λ s ss cl e i. rw (i, starts) (sym (more-none (starts eq rec ss cl)));
-    entry = λ s ss cl e i. rw (i, starts) (sym (more-none (after (rec [] s cl) (λ cl′. starts eq rec ss (s ∷ cl′)))));
-    cost = λ s ss. omega arith;
-  }
+  starts-goes rec = record { clauses = starts-going eq rec; cost = λ s ss. omega arith }
 
   edges-all : (succ : A → List A) (u : List A) → left (λ (x : A). length (succ x)) (taken [] []) u ≡ length (pairs succ u)
   unfolding left taken mem pairs
@@ -225,19 +204,19 @@ module _ {A : Type 0} (eq : A → A → Bool) (ok : Test eq) (succ : A → List 
       → (todo cl : List A) → Ready f path cl → Todo path todo → Gone f path todo cl (most todo) (go todo cl)
   unfolding mem rust-scan
   gone f rec good path k most go g [] cl r t =
-      rw (g .ends cl) (record { topo = r .topo; apart = r .apart; grows = λ x m. m; all = λ u m. absurd (true≢false (sym m)); looks = omega arith; rust = refl })
+      rw (g .clauses .ends cl) (record { topo = r .topo; apart = r .apart; grows = λ x m. m; all = λ u m. absurd (true≢false (sym m)); looks = omega arith; rust = refl })
   gone f rec good path k most go g (s ∷ ss) cl r t =
       let rest : (cl₁ : List A) → Ready f path cl₁ → Gone f path ss cl₁ (most ss) (go ss cl₁) = λ cl₁ r₁. gone f rec good path k most go g ss cl₁ r₁ (todo-rest path s ss t) in
       let here : mem eq s (s ∷ ss) ≡ true = mem-self eq ok s ss in
       let c : k + most ss ≤ most (s ∷ ss) = g .cost s ss in
       ⊎-elim
-      (λ e. rw (g .loop s ss cl e) (loop-gone f path s ss cl k (most ss) (most (s ∷ ss)) c e (t .steps s here)))
+      (λ e. rw (g .clauses .loop s ss cl e) (loop-gone f path s ss cl k (most ss) (most (s ∷ ss)) c e (t .steps s here)))
       (λ e.
       ⊎-elim
-      (λ i. rw (g .skip s ss cl e i) (skip-gone f path s ss cl k (most ss) (most (s ∷ ss)) c r i (go ss cl) (rest cl r)))
+      (λ i. rw (g .clauses .skip s ss cl e i) (skip-gone f path s ss cl k (most ss) (most (s ∷ ss)) c r i (go ss cl) (rest cl r)))
       (λ i.
       rw
-      (g .entry s ss cl e i)
+      (g .clauses .entry s ss cl e i)
       (entry-gone f path s ss cl k (most ss) (most (s ∷ ss)) c (λ cl₁. go ss (s ∷ cl₁)) r (λ cl₁ r₁. rest (s ∷ cl₁) r₁) (rec path s cl) (good path s cl r e i (t .within s here) (t .steps s here))))
       (split (mem eq s cl)))
       (split (mem eq s path))

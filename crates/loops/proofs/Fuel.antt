@@ -10,7 +10,7 @@ use lib.ListN.{length}
 use Rattle.lustre.specs.Name.{mem}
 use Rattle.lustre.specs.Walk.{Search, found, clear, more, after, starts, scan, enter, walk}
 use Rattle.demands.proofs.Sets.{split, Test, mem-later, mem-self, mem-snoc, left, left-drop}
-use Rattle.loops.proofs.Clauses.{Going, scan-going, starts-going}
+use Rattle.demands.proofs.Clauses.{Going, scan-going, starts-going}
 
 after-same : {A : Type 0} (o : Search A) (go go′ : List A → Search A) → ((cl : List A) → go′ cl ≡ go cl) → after o go′ ≡ after o go
 unfolding after

@@ -1,7 +1,6 @@
 pub mod Bits
 pub mod Rows
 pub mod Stores
-pub mod Clauses
 pub mod Place
 pub mod Steps
 pub mod Fuel

@@ -10,7 +10,7 @@ use Rattle.lustre.specs.Walk.{Search, found, clear, more, after, from-first, cl
 use Rattle.demands.specs.Reading.{Each}
 use Rattle.demands.proofs.Eaches.{each-append}
 use Rattle.demands.proofs.Sets.{split, mem-eq, mem-ne, from-eq, from-ne}
-use Rattle.loops.proofs.Clauses.{Going, scan-going, starts-going}
+use Rattle.demands.proofs.Clauses.{Going, scan-going, starts-going}
 
 -- every name that a search answers with is one that the renaming is for
 abbrev pub Each-in : {A : Type 0} → (A → Type 0) → Search A → Type 0

@@ -20,7 +20,7 @@ use Rattle.loops.specs.Rows.{has, row-from, row, Next}
 use Rattle.loops.specs.Steps.{free, Colours, Ends, Alike, CanEnter, Enters, CanPlace, Places}
 use Rattle.loops.specs.Search.{Answers, CanSearch, Searches}
 use Rattle.loops.proofs.Rows.{same-or, row-hit, row-end}
-use Rattle.loops.proofs.Clauses.{starts-going, more-none, more-more}
+use Rattle.demands.proofs.Clauses.{starts-going, more-none, more-more}
 use Rattle.loops.proofs.Steps.{free-zero, free-other}
 use Rattle.loops.proofs.Rename.{Each-in, renamed}
 use Rattle.loops.proofs.Texts.{searched-texts}

@@ -18,7 +18,7 @@ use Rattle.demands.proofs.Sets.{split, mem-eq, mem-ne, mem-snoc, from-eq, from-
 use Rattle.loops.specs.Rows.{has, row-from, row, Next}
 use Rattle.loops.specs.Steps.{free, Colours, Alike, CanEnter, Enters}
 use Rattle.loops.proofs.Rows.{same-or, row-hit, row-end}
-use Rattle.loops.proofs.Clauses.{scan-going, more-none, more-more}
+use Rattle.demands.proofs.Clauses.{scan-going, more-none, more-more}
 
 -- The free names.
 pub free-zero : (c : ℕ) (cs : List ℕ) → c ≡ 0 → free (c ∷ cs) ≡ suc (free cs)
