@@ -1,0 +1,5 @@
+pub mod Inversions
+pub mod Sizes
+pub mod Parts
+pub mod FromFlat
+pub mod Owed
