@@ -338,6 +338,18 @@ module _ (S : Source) where
   unfolding sizes-of Each-at
   start e at s = record { many = refl; stand = (s, tt); ends = omega arith }
 
+  -- and behind its first record stand the parts in it
+  pub inside : (e : Expr) (at : ℕ) → Expr-at S e at → Owing (in-expr e) (at + 1) (at + size e) (length (in-expr e))
+  inside e at s = record { many = refl; stand = part-opens (of-expr e) at s .parts; ends = omega (arith, opened-size (of-expr e)) }
+
+  -- a part that begins with a kind of expressions is one
+  pub expr-part : (p : Part) (at : ℕ) → Part-at S p at → 40 ≤ kind at → kind at ≤ 83 → (e : Expr) × (p ≡ of-expr e) × Expr-at S e at
+  expr-part (of-type t) at s l h = absurd (omega (arith, type-kind S t at s))
+  expr-part (of-expr e) at s l h = (e, refl, s)
+  expr-part (of-list es) at s l h = absurd (omega (arith, s .0 .kind))
+  expr-part (of-values vs) at s l h = absurd (omega (arith, s .0 .kind))
+  expr-part (of-value x e) at s l h = absurd (omega (arith, s .0 .kind))
+
   module _ {ps : List Part} {at end left : ℕ} (w : Owing ps at end left) where
     -- no more parts are owed than there are records left
     pub owing-few : at + left ≤ end
