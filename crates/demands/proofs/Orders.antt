@@ -12,7 +12,7 @@ use Rattle.demands.specs.Loops.{Distinct}
 use Rattle.demands.proofs.Sets.{Test}
 
 -- what a comparison of numbers says
-abbrev Compared : Ordering → ℕ → ℕ → Type 0
+abbrev pub Compared : Ordering → ℕ → ℕ → Type 0
 Compared Ordering·lt x y = x < y
 Compared Ordering·eq x y = x ≡ y
 Compared Ordering·gt x y = y < x
@@ -29,7 +29,7 @@ compared (suc x) (suc y) o e = one-more o (compared x y o (sym (compare·suc-suc
     one-more Ordering·gt h = omega arith
 
 -- of the three only one holds
-compare-is : (x y : ℕ) (o : Ordering) → Compared o x y → compare x y ≡ o
+pub compare-is : (x y : ℕ) (o : Ordering) → Compared o x y → compare x y ≡ o
 compare-is x y o h = go o (compare x y) h (compared x y (compare x y) refl)
   where
     go : (o p : Ordering) → Compared o x y → Compared p x y → p ≡ o
