@@ -6,7 +6,7 @@ use native.Mathlib.Decide.{decLt}
 use native.Mathlib.Nat.{zero-add}
 use mathlib.Core.Path.{_≡_, refl, sym, ap, _∙_}
 use mathlib.Core.Bool.{Bool, true, false, _&&_}
-use mathlib.Core.List.{List, [], _∷_, _++_, map, flatMap}
+use mathlib.Core.List.{List, [], _∷_, _++_, flatMap, map-append}
 use mathlib.Core.Option.{Option, none, some, Option·map}
 use lib.Dec.{leb, ltb}
 use lib.ListN.{length, getD, set, take, drop, length-take, length-drop}
@@ -200,11 +200,6 @@ module _ {first : ℕ} where
   }
 
 -- ---- what is said
-
--- a map of an append
-map-append : {A B : Type 0} (f : A → B) (xs ys : List A) → map f (xs ++ ys) ≡ map f xs ++ map f ys
-map-append f [] ys = refl
-map-append f (x ∷ xs) ys = ap (λ (r : List _). f x ∷ r) (map-append f xs ys)
 
 module _ {num : Name → ℕ} {q : Spot} where
   -- no note
