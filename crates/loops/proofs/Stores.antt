@@ -1,4 +1,4 @@
--- What a store of a word does to rows of bits: the law of `connect`, the steps of `clear_row`, and what an array of zeros holds.
+-- What a store of a word does to rows of bits: the law of `connect`, the steps of `join_row` and `clear_row`, and what an array of zeros holds.
 -- Assumes nothing.
 use Prim.Native.Nat.{ℕ, _+_, _*_, _≤_, _<_, _/_, _%_, _^_, zero-le}
 use native.Mathlib.Omega.{arith}
@@ -12,7 +12,7 @@ use lib.Dec.{eqb, ltb}
 use lib.Bits.{bitOr}
 use borrow.Author.Tests.{eq-eqb, ne-eqb, ltb-true, ltb-false}
 use Rattle.demands.proofs.Sets.{split}
-use Rattle.loops.specs.Rows.{bit, has, Connected, Emptied}
+use Rattle.loops.specs.Rows.{bit, has, Connected, Joined, Emptied}
 use Rattle.loops.proofs.Bits.{bit-zero, bit-or, bit-pow}
 use Rattle.loops.proofs.Rows.{same-or}
 
@@ -65,6 +65,55 @@ connected ws a b long hb =
 
     other-word : (x y : ℕ) → y < 512 → (8 * x + y / 64 ≡ at → ⊥) → has (set ws at w) x y ≡ (has ws x y || (eqb x a && eqb y b))
     other-word x y hy n = has-other ws at w within x y n ∙ sym (or-false (has ws x y)) ∙ ap (λ (t : Bool). has ws x y || t) (sym (neither x y hy n))
+
+-- what the loop of `join_row` keeps: i words of the set are in row a
+pub record Joining (ws : List ℕ) (a : ℕ) (more ws′ : List ℕ) (i : ℕ) : Type 0 where
+  pub upto : i ≤ 8
+  pub long : length ws′ ≡ length ws
+  pub joined : (y : ℕ) → y < 64 * i → has ws′ a y ≡ (has ws a y || has more 0 y)
+  pub kept : (x y : ℕ) → y < 512 → (x ≡ a → 64 * i ≤ y) → has ws′ x y ≡ has ws x y
+
+pub joining-start : (ws : List ℕ) (a : ℕ) (more : List ℕ) → Joining ws a more ws 0
+joining-start ws a more = record { upto = zero-le; long = refl; joined = λ y h. absurd (omega arith); kept = λ x y h k. refl }
+
+-- the bits of a word of the row and of the set's word
+word-or : (ws more : List ℕ) (a i y : ℕ) → y / 64 ≡ i → bit (bitOr (getD ws (8 * a + i) 0) (getD more i 0)) (y % 64) ≡ (has ws a y || has more 0 y)
+unfolding has
+word-or ws more a i y e =
+    bit-or (getD ws (8 * a + i) 0) (getD more i 0) (y % 64)
+    ∙ ap (λ (k : ℕ). bit (getD ws (8 * a + k) 0) (y % 64) || bit (getD more i 0) (y % 64)) (sym e)
+    ∙ ap (λ (k : ℕ). has ws a y || bit (getD more k 0) (y % 64)) (let q : i ≡ 8 * 0 + y / 64 = omega arith in q)
+
+pub joining-more : {ws : List ℕ} {a : ℕ} {more ws′ : List ℕ} {i : ℕ} → 8 * a + 8 ≤ length ws → i < 8 → Joining ws a more ws′ i
+    → Joining ws a more (set ws′ (8 * a + i) (bitOr (getD ws′ (8 * a + i) 0) (getD more i 0))) (i + 1)
+joining-more {ws} {a} {more} {ws′} {i} long h c =
+    let at : ℕ = 8 * a + i in
+    let w : ℕ = bitOr (getD ws′ at 0) (getD more i 0) in
+    let within : at < length ws′ = omega (arith, c .long) in
+    record {
+      upto = omega arith;
+      long = length-set ws′ at w ∙ c .long;
+      joined = λ y b.
+          ⊎-elim
+          (λ (e : y / 64 ≡ i).
+          has-same ws′ at w within a y (omega arith) ∙ word-or ws′ more a i y e ∙ ap (λ (t : Bool). t || has more 0 y) (c .kept a y (omega arith) (λ _. omega arith)))
+          (λ (n : y / 64 ≡ i → ⊥). has-other ws′ at w within a y (λ e. n (omega arith)) ∙ c .joined y (omega arith))
+          (same-or (y / 64) i);
+      kept = λ x y b k. has-other ws′ at w within x y (λ e. let q : x ≡ a = omega arith in omega (arith, k q)) ∙ c .kept x y b (λ q. omega (arith, k q));
+    }
+
+pub joining-done : {ws : List ℕ} {a : ℕ} {more ws′ : List ℕ} {i : ℕ} → 8 ≤ i → Joining ws a more ws′ i → Joined ws a more ws′
+joining-done {ws} {a} {more} {ws′} h c =
+    record {
+      edges = λ x y b.
+          ⊎-elim
+          (λ (e : x ≡ a).
+          ap (λ (z : ℕ). has ws′ z y) e
+          ∙ c .joined y (omega arith)
+          ∙ sym (ap (λ (z : ℕ). has ws z y || (eqb x a && has more 0 y)) e ∙ ap (λ (t : Bool). has ws a y || (t && has more 0 y)) (eq-eqb x a e)))
+          (λ (n : x ≡ a → ⊥). c .kept x y b (λ e. absurd (n e)) ∙ sym (ap (λ (t : Bool). has ws x y || (t && has more 0 y)) (ne-eqb x a n) ∙ or-false (has ws x y)))
+          (same-or x a);
+    }
 
 -- what the loop of `clear_row` keeps: i words of row a are 0
 pub record Clearing (ws : List ℕ) (a : ℕ) (ws′ : List ℕ) (i : ℕ) : Type 0 where

@@ -40,6 +40,10 @@ pub record Next (ws : List ℕ) (a j r : ℕ) : Type 0 where
 pub record Connected (ws : List ℕ) (a b : ℕ) (ws′ : List ℕ) : Type 0 where
   pub edges : (x y : ℕ) → y < 512 → has ws′ x y ≡ (has ws x y || (eqb x a && eqb y b))
 
+-- ws′ is ws with the names of the set `more` in row a
+pub record Joined (ws : List ℕ) (a : ℕ) (more ws′ : List ℕ) : Type 0 where
+  pub edges : (x y : ℕ) → y < 512 → has ws′ x y ≡ (has ws x y || (eqb x a && has more 0 y))
+
 -- ws′ is ws with row a empty
 pub record Emptied (ws : List ℕ) (a : ℕ) (ws′ : List ℕ) : Type 0 where
   pub edges : (x y : ℕ) → y < 512 → has ws′ x y ≡ (has ws x y && not (eqb x a))

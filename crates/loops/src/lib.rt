@@ -5,7 +5,7 @@
 // are searched is not decided here.
 ghost use Prim.Native.Nat.{_+_, _*_, _≤_, _<_};
 ghost use lib.ListN.{length};
-ghost use Rattle.loops.specs.Rows.{Next, Connected, Emptied};
+ghost use Rattle.loops.specs.Rows.{Next, Connected, Joined, Emptied};
 ghost use Rattle.loops.specs.Steps.{CanEnter, Enters, CanPlace, Places};
 ghost use Rattle.loops.specs.Search.{CanSearch, Searches};
 
@@ -16,6 +16,19 @@ pub fn connect(graph: &mut [u64], a: usize, b: usize)
 {
     let at = 8 * a + b / 64;
     graph[at] = graph[at] | (1u64 << (b % 64));
+}
+
+// Adds an edge from `a` to each name of the set `row`, a word at a time.
+pub fn join_row(graph: &mut [u64], a: usize, row: &[u64])
+    requires { ⌜ (8 * a + 8 ≤ length (now graph)) × (8 ≤ length (now row)) ⌝ }
+    ensures { λ _. ⌜ Joined (now (graph .entry)) a (now (row .entry)) (now (graph .exit)) ⌝ }
+{
+    let mut k: usize = 0;
+    while k < 8 {
+        let i = 8 * a + k;
+        graph[i] = graph[i] | row[k];
+        k += 1;
+    }
 }
 
 // Takes all edges from `a` away; and, where `graph` is one set of names and `a` is 0, all its names.
