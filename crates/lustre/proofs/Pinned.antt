@@ -64,9 +64,9 @@ circular y = alias′ y (Named′ y)
 abbrev two-records : List Decl
 two-records = record′ "R" ("u" of Int8 ∷ []) ∷ record′ "R" ("w" of Boolean ∷ []) ∷ []
 
--- a record R with two fields u
+-- a record R with two fields u, after another
 abbrev two-fields : List Decl
-two-fields = record′ "R" ("u" of Int8 ∷ "u" of Boolean ∷ []) ∷ []
+two-fields = record′ "R" ("t" of Int32 ∷ "u" of Int8 ∷ "u" of Boolean ∷ []) ∷ []
 
 -- an alias X of Int32 and a record X
 abbrev alias-and-record : List Decl
@@ -162,8 +162,8 @@ declarations =
     gives [])
     -- equal fields of different types: access and E0127 use the first, and E0128 is one line for each
     ∷ (using-types two-fields (Named′ "R") Int8 (field′ "u" (v "a")) gives [])
-    ∷ (using-types two-fields Int8 (Named′ "R") (struct′ "R" (init′ "u" yes []ⁱ)) gives E 127 at 0 on "u" ∷ [])
-    ∷ (using-types two-fields Int8 (Named′ "R") (struct′ "R" []ⁱ) gives E 128 at 0 on "u" ∷ E 128 at 0 on "u" ∷ [])
+    ∷ (using-types two-fields Int8 (Named′ "R") (struct′ "R" (init′ "t" (num 1) (init′ "u" yes []ⁱ))) gives E 127 at 0 on "u" ∷ [])
+    ∷ (using-types two-fields Int8 (Named′ "R") (struct′ "R" (init′ "t" (num 1) []ⁱ)) gives E 128 at 0 on "u" ∷ E 128 at 0 on "u" ∷ [])
     -- alias A of record R: A {} is a value of R
     ∷ (using-types (record′ "R" [] ∷ alias′ "A" (Named′ "R") ∷ []) Int8 (Named′ "R") (struct′ "A" []ⁱ) gives [])
     -- alias X of Int32 and record X: X {} is a record value whose type then resolves to Int32
@@ -232,6 +232,7 @@ bodies =
     ∷ (alone Function ("a" of Int8 ∷ "a" of Int32 ∷ []) ("x" of Int32 ∷ []) [] ("x" ≔ v "a" ∷ []) [] gives E 10 on "a" ∷ [])
     ∷ (alone Function ("a" of Int8 ∷ []) ("x" of Int32 ∷ "a" of Int32 ∷ []) [] ("x" ≔ v "a" ∷ "a" ≔ v "x" ∷ []) []
     gives E 11 on "a" ∷ E 22 eq 1 on "a" ∷ [])
+    ∷ (alone Function [] ("x" of Int8 ∷ []) ("x" of Boolean ∷ []) ("x" ≔ yes ∷ []) [] gives E 12 on "x" ∷ [])
     ∷ (alone Function [] ("x" of Int8 ∷ []) ("x" of Int64 ∷ []) ("x" ≔ num 1 ∷ []) [] gives E 12 on "x" ∷ [])
     -- E0020 or E0022, then E0021, name by name, for unknown names and inputs too
     ∷ (body Function ("i" ∷ []) ("x" ∷ []) [] (("z" ∷ "i" ∷ "x" ∷ "x" ∷ []) ≔≔ tuple []ᵉ ∷ ("z" ∷ "i" ∷ []) ≔≔ tuple []ᵉ ∷ []) []

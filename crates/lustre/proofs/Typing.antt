@@ -75,7 +75,7 @@ literals =
     -- a minus directly on an integer literal is taken first: −0, and −(−1) as one literal
     ∷ (operator Uint8 (minus 0) gives [])
     ∷ (operator Uint8 (minus 18_446_744_073_709_551_615) gives [])
-    -- −(−2^63) fits Uint64 only
+    -- −(−2^63) fits Uint64 only: document 01, where the Rust overflows
     ∷ (operator Uint64 (minus 9_223_372_036_854_775_808) gives [])
     ∷ (operator Int64 (minus 9_223_372_036_854_775_808) gives other-type ∷ [])
     -- a minus on a minus is not: it hands its hint on

@@ -1,0 +1,10 @@
+-- Laws that belong to no one function.
+pub mod Laws
+pub mod Places
+pub mod Classes
+pub mod Rules
+pub mod PortLaws
+pub mod Bits
+pub mod StructLaws
+pub mod IteratorLaws
+pub mod Onward

@@ -1,0 +1,9 @@
+pub mod Classes
+pub mod World
+pub mod Post
+pub mod Ports
+pub mod Marks
+pub mod Structs
+pub mod Flags
+pub mod Iterators
+pub mod Lists
