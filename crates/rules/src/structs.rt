@@ -18,6 +18,11 @@ ghost use Rattle.rules.specs.World.{World, Ports-here};
 ghost use Rattle.rules.specs.Marks.{bit, Marked};
 ghost use Rattle.rules.specs.Structs.{Declared};
 
+// The names given, as bits by name number.
+pub struct Marks {
+    pub bits: [u64; 8],
+}
+
 // What a struct's field values leave: the names given, where the next record is, and the number of lines so far.
 pub struct ValuesLeft {
     pub marks: [u64; 8],
@@ -65,21 +70,21 @@ pub fn record_of(
 }
 
 // No name.
-pub fn no_marks() -> [u64; 8]
-    ensures { λ r. ⌜ ((ρ : Naming) → Marked ρ [] r) ⌝ }
+pub fn no_marks() -> Marks
+    ensures { λ r. ⌜ ((ρ : Naming) → Marked ρ [] (r .bits)) ⌝ }
 {
-    [0u64; 8]
+    Marks { bits: [0u64; 8] }
 }
 
 // The names given, and one more.
-pub fn mark(marks: [u64; 8], name: u64) -> [u64; 8]
+pub fn mark(marks: Marks, name: u64) -> Marks
     requires { ⌜ name < 512 ⌝ }
-    ensures { λ r. ⌜ ((ρ : Naming) → Injective ρ → (xs : List Name) → Marked ρ xs marks → Marked ρ (xs ++ (ρ name ∷ [])) r) ⌝ }
+    ensures { λ r. ⌜ ((ρ : Naming) → Injective ρ → (xs : List Name) → Marked ρ xs (marks .bits) → Marked ρ (xs ++ (ρ name ∷ [])) (r .bits)) ⌝ }
 {
-    let mut g = marks;
+    let mut g = marks.bits;
     let i = (name / 64) as usize;
     g[i] = g[i] | (1u64 << (name % 64));
-    g
+    Marks { bits: g }
 }
 
 // Whether a name is given.

@@ -1,5 +1,7 @@
 -- `rules::structs::mark` meets its contract: the law of one name more. Assumes nothing.
 use native.Mathlib.Omega.{arith}
+use mathlib.Core.Path.{_≡_}
+use lib.ListN.{length}
 use borrow.Author.Needs.{needs}
 use Rattle.rules.proofs.Bits.{marks-more}
 use Rattle.rules.proofs.structs.mark.Statement.{statement}
@@ -21,7 +23,10 @@ array-write-g : tie.Need-array-write-g
 array-write-g c = search needs
 
 returns : tie.Need-returns
-returns c = λ ρ inj xs m. marks-more ρ inj xs _ _ (omega arith) m
+returns c = λ ρ inj xs m.
+    let t = c .before .args .marks in
+    let long : length (t .bits) ≡ 8 = search needs in
+    marks-more ρ inj xs (t .bits) (c .before .args .name) (omega (arith, long, c .before .pre)) m
 
 pub mark-spec : {M : Type 1} → statement M
 mark-spec = tie.close (tie.spec mul-g array-read-g shl-g mul-g-2 array-write-g returns)

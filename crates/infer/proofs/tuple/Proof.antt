@@ -1,0 +1,16 @@
+-- `infer::tuple` meets its contract. Assumes nothing.
+use Rattle.infer.proofs.Cases as cases
+use Rattle.infer.proofs.tuple.Statement.{statement}
+use Rattle.infer.proofs.tuple.Tie as tie
+
+bottom-of-requires : tie.Need-bottom-of-requires
+bottom-of-requires c κs = tt
+
+skip-requires : tie.Need-skip-requires
+skip-requires c κs = cases.there (c .before .before .before .before .before .before .before .pre .0)
+
+returns : tie.Need-returns
+returns c = λ g. cases.tuple-done g (c .before .before .before .before .before .before .before .before .pre .2) (c .before .bottom-of .ensures) (c .skip .ensures)
+
+pub tuple-spec : {M : Type 1} → statement M
+tuple-spec = tie.close (tie.spec bottom-of-requires skip-requires returns)
