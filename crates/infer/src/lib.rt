@@ -151,7 +151,7 @@ fn variable(
     var_rule(kinds, words, scope, name, at, next, q, out, n)
 }
 
-// A tuple, lib.rs 1088: its parts are not typed.
+// A tuple, lib.rs 1198: its parts are not typed.
 fn tuple(
     kinds: &[u8],
     words: &[u64],
@@ -252,7 +252,7 @@ fn binary(
     }
 }
 
-// Two parts that must agree, the second hinted by the first, lib.rs 921: the branches of `if` and `merge`, the sides of `->`.
+// Two parts that must agree, the second hinted by the first, lib.rs 917, 934 and 1207: the branches of `if` and `merge`, the sides of `->`.
 fn both(
     kinds: &[u8],
     words: &[u64],
@@ -286,7 +286,7 @@ fn both(
     }
 }
 
-// `if`, lib.rs 900: E0090, E0091.
+// `if`, lib.rs 901: E0090, E0091.
 fn ite(
     kinds: &[u8],
     words: &[u64],
@@ -472,7 +472,7 @@ fn cast(
     }
 }
 
-// An argument at a place beside the port at another, lib.rs 981: E0103.
+// An argument at a place beside the port at another, lib.rs 983: E0103.
 fn arg(
     kinds: &[u8],
     words: &[u64],
@@ -514,7 +514,7 @@ fn arg(
     }
 }
 
-// The arguments of a call, lib.rs 981.
+// The arguments of a call, lib.rs 983.
 fn args(
     kinds: &[u8],
     words: &[u64],
