@@ -1,0 +1,54 @@
+#!/usr/bin/env python3
+"""mark.py LIB MARKED: makes the marked copy of the checker out of its source file.
+
+Every `diags.push(..)` becomes `diags.push_marked(..)`, and five places say which declaration or
+which expression is at hand (rust/mark.rs). Nothing else changes, no line moves, and the driver
+asserts on every model that the copy gives the diagnostics of the unchanged source.
+"""
+import sys
+
+# (text that occurs exactly once, the same text with the mark)
+ENTRIES = [
+    # E0006 is about the package, E0007 about the enum in it
+    ("            if !type_names.insert(ty.name()) {\n",
+     "            let _p = mark::place(pkg); if !type_names.insert(ty.name()) {\n"),
+    ("            if let TypeBody::Enum(def) = &ty.body {\n",
+     "            if let TypeBody::Enum(def) = &ty.body { let _p = mark::place(ty);\n"),
+    # E0001 is about the later node
+    ("        if signatures\n            .insert(\n",
+     "        let _p = mark::place(n); if signatures\n            .insert(\n"),
+    # constants and nodes
+    ("            let ctx = format!(\"constant {}\", c.name);\n",
+     "            let ctx = format!(\"constant {}\", c.name); let _p = mark::place(c);\n"),
+    ("    let ctx = format!(\"node {}\", node.name);\n",
+     "    let ctx = format!(\"node {}\", node.name); let _p = mark::place(node);\n"),
+    # the expression whose rule adds the diagnostic
+    ("    tctx: &TypeContext,\n    hint: Option<&Type>,\n) -> Option<Type> {\n",
+     "    tctx: &TypeContext,\n    hint: Option<&Type>,\n) -> Option<Type> { let _r = mark::rule(expr);\n"),
+    ("    under_arrow_body: bool,\n    diags: &mut Vec<Diagnostic>,\n    ctx: &str,\n) {\n",
+     "    under_arrow_body: bool,\n    diags: &mut Vec<Diagnostic>,\n    ctx: &str,\n) { let _r = mark::rule(expr);\n"),
+    ("        e.visit(|x| {\n", "        e.visit(|x| { let _r = mark::rule(x);\n"),
+]
+
+
+def marked(text):
+    pushes = text.count("diags.push(")
+    made = text.count("Diagnostic::error(") + text.count("Diagnostic::warning(")
+    if pushes == 0 or pushes != made:
+        raise SystemExit(f"mark.py: {pushes} pushes, {made} diagnostics made")
+    for old, new in ENTRIES:
+        if text.count(old) != 1:
+            raise SystemExit(f"mark.py: not exactly once in the source: {old!r}")
+        text = text.replace(old, new)
+    return text.replace("diags.push(", "diags.push_marked(") + "\nmod mark;\nuse mark::Marked;\n"
+
+
+def main():
+    source, target = sys.argv[1:]
+    with open(source, encoding="utf-8") as f:
+        text = f.read()
+    with open(target, "w", encoding="utf-8") as f:
+        f.write(marked(text))
+
+
+main()

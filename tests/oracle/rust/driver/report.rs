@@ -1,0 +1,291 @@
+//! The lines of document 01 out of the Rust's diagnostics.
+//!
+//! Code, severity, equation and order are those of the unchanged checker. Names are read from its
+//! messages. It gives places by name only and no steps: these come from the marked copy, whose
+//! diagnostics must equal the unchanged one's but for one added context string (rust/mark.rs). The
+//! string holds the addresses of the declaration and of the expression at hand; this file
+//! knows which declaration and which record stands at an address, and that the Rust's own context
+//! string names the same declaration. E0008 has no declaration at hand: its place is the last alias
+//! of the name, as document 01 says.
+use std::collections::HashMap;
+
+use ol_ir::*;
+
+use crate::walk::walk;
+
+pub const NONE: u64 = u64::MAX;
+const PACKAGE: u64 = 0;
+const ENUM: u64 = 1;
+const TYPE: u64 = 2;
+const CONSTANT: u64 = 3;
+const NODE: u64 = 4;
+
+#[derive(Clone, Debug, PartialEq, Eq)]
+pub struct Line {
+    pub code: u64,
+    pub place: u64,
+    pub number: u64,
+    pub equation: u64,
+    pub step: u64,
+    pub name: u64,
+    pub warning: bool,
+}
+
+#[derive(Clone, Debug, PartialEq, Eq)]
+pub struct Report {
+    pub lines: Vec<Line>,
+    pub followed: u64,
+    /// For each line, the line of the Rust that added it.
+    pub sources: Vec<u32>,
+}
+
+/// What stands at which address.
+#[derive(Default)]
+struct Places {
+    /// place kind, place number, context string of the Rust
+    declarations: HashMap<usize, (u64, u64, String)>,
+    steps: HashMap<usize, u64>,
+    aliases: HashMap<String, u64>,
+}
+
+fn address<T>(x: &T) -> usize {
+    x as *const T as usize
+}
+
+impl Places {
+    fn of(project: &Project) -> Self {
+        let mut places = Places::default();
+        let (mut types, mut constants, mut nodes) = (0, 0, 0);
+        for (i, pkg) in project.packages.iter().enumerate() {
+            places.declare(pkg, PACKAGE, i as u64, format!("package {}", pkg.name));
+            for t in &pkg.types {
+                let context = format!("enum {} in package {}", t.name(), pkg.name);
+                places.declare(t, ENUM, types, context);
+                if let TypeBody::Alias { name, .. } = &t.body {
+                    places.aliases.insert(name.clone(), types);
+                }
+                types += 1;
+            }
+            for c in &pkg.constants {
+                places.declare(c, CONSTANT, constants, format!("constant {}", c.name));
+                places.number(&c.value, &mut 0);
+                constants += 1;
+            }
+            for n in &pkg.nodes {
+                places.declare(n, NODE, nodes, format!("node {}", n.name));
+                for eq in &n.equations {
+                    places.number(&eq.rhs, &mut 0);
+                }
+                nodes += 1;
+            }
+        }
+        places
+    }
+
+    fn declare<T>(&mut self, x: &T, kind: u64, number: u64, context: String) {
+        let before = self.declarations.insert(address(x), (kind, number, context));
+        assert!(before.is_none(), "two declarations at one address");
+    }
+
+    /// Numbers the records of an expression from its start: lists, field values and the types of
+    /// casts are records too.
+    fn number(&mut self, e: &Expr, at: &mut u64) {
+        let before = self.steps.insert(address(e), *at);
+        assert!(before.is_none(), "two expressions at one address");
+        *at += 1;
+        match e {
+            Expr::Const { .. } | Expr::Var { .. } => {}
+            Expr::Unary { arg, .. } | Expr::Pre { arg } => self.number(arg, at),
+            Expr::Field { base: arg, .. } | Expr::When { arg, .. } => self.number(arg, at),
+            Expr::Cast { to, arg } => {
+                *at += type_records(to);
+                self.number(arg, at);
+            }
+            Expr::Binary { lhs: a, rhs: b, .. }
+            | Expr::Arrow { init: a, body: b }
+            | Expr::Index { base: a, index: b }
+            | Expr::Merge { on_true: a, on_false: b, .. } => {
+                self.number(a, at);
+                self.number(b, at);
+            }
+            Expr::IfThenElse { cond, then_branch, else_branch } => {
+                self.number(cond, at);
+                self.number(then_branch, at);
+                self.number(else_branch, at);
+            }
+            Expr::Tuple { items } | Expr::Array { items } => self.all(items, at),
+            Expr::Call { args, .. } => self.list(args, at),
+            Expr::Struct { fields, .. } => {
+                *at += 1;
+                for f in fields {
+                    *at += 1;
+                    self.number(&f.value, at);
+                }
+            }
+            Expr::Iterate { init, arrays, .. } => {
+                if let Some(seed) = init {
+                    self.number(seed, at);
+                }
+                self.list(arrays, at);
+            }
+        }
+    }
+
+    fn list(&mut self, items: &[Expr], at: &mut u64) {
+        *at += 1;
+        self.all(items, at);
+    }
+
+    fn all(&mut self, items: &[Expr], at: &mut u64) {
+        for i in items {
+            self.number(i, at);
+        }
+    }
+}
+
+fn type_records(ty: &Type) -> u64 {
+    match ty {
+        Type::Array { elem, .. } => 1 + type_records(elem),
+        _ => 1,
+    }
+}
+
+/// Takes the mark off a diagnostic: the place, the expression, the line of the source.
+fn unmark(d: &mut Diagnostic) -> (usize, usize, u32) {
+    let mark = d.context.pop().expect("a context string");
+    let parts: Vec<&str> = mark.split(' ').collect();
+    assert!(parts.len() == 4 && parts[0] == "mark", "no mark: {mark}");
+    let number = |i: usize| parts[i].parse::<usize>().expect("a number");
+    (number(1), number(2), number(3) as u32)
+}
+
+/// The Rust's report on a project whose names have the numbers given; no name holds a space.
+pub fn report(project: &Project, numbers: &HashMap<String, u64>) -> Report {
+    let plain = ol_typecheck::check_project(project).diagnostics;
+    let mut marked = ol_marked::check_project(project).diagnostics;
+    let marks: Vec<_> = marked.iter_mut().map(unmark).collect();
+    assert_eq!(plain, marked, "the marked copy differs from the unchanged checker");
+    let places = Places::of(project);
+    let nodes: Vec<&NodeDef> = project.all_nodes().collect();
+    let walks: Vec<_> = nodes.iter().map(|n| walk(n)).collect();
+    let mut report = Report { lines: vec![], followed: walks.iter().map(|w| w.looks).sum(), sources: vec![] };
+    let mut loops = vec![None; nodes.len()];
+    for (d, mark) in plain.iter().zip(&marks) {
+        let line = place_of(d, mark, &places);
+        let mut add = |line| {
+            report.lines.push(line);
+            report.sources.push(mark.2);
+        };
+        let number = |name: &str| *numbers.get(name).expect("a name of the model");
+        if line.code == 60 {
+            let path = loop_names(&d.message);
+            for (i, name) in path.iter().enumerate() {
+                add(Line { step: i as u64, name: number(name), ..line.clone() });
+            }
+            loops[line.number as usize] = Some(path);
+        } else {
+            let name = name_in(d, &line, &nodes).map_or(NONE, |n| number(&n));
+            add(Line { name, ..line });
+        }
+    }
+    for (found, walked) in loops.iter().zip(&walks) {
+        assert_eq!(*found, walked.path, "the walk's loop differs from the Rust's");
+    }
+    report
+}
+
+/// Code, severity, place, equation and step of a diagnostic.
+fn place_of(d: &Diagnostic, mark: &(usize, usize, u32), places: &Places) -> Line {
+    let code: u64 = d.code[1..].parse().expect("a number after the letter");
+    assert_eq!(d.context.len(), 1, "one context string");
+    let context = d.context[0].as_str();
+    let (place, number, own) = if code == 8 {
+        let alias = context.strip_prefix("type ").expect("an alias");
+        (TYPE, places.aliases[alias], context)
+    } else {
+        let (place, number, own) = &places.declarations[&mark.0];
+        (*place, *number, own.as_str())
+    };
+    let rest = context.strip_prefix(own).expect("the context of the declaration");
+    let equation = match rest.strip_prefix(" · equation ") {
+        Some(i) if place == NODE => i.parse().expect("an equation's number"),
+        _ => {
+            assert_eq!(rest, "", "nothing after the context of a declaration");
+            NONE
+        }
+    };
+    let step = if mark.1 == 0 { NONE } else { places.steps[&mark.1] };
+    assert_eq!(step != NONE, has_step(code), "step of {}", d.code);
+    assert_eq!(&d.code[..1], if code == 51 { "W" } else { "E" });
+    let warning = matches!(d.severity, Severity::Warning);
+    assert!(warning || matches!(d.severity, Severity::Error));
+    Line { code, place, number, equation, step, name: NONE, warning }
+}
+
+/// Codes of inference, of `pre` without initial value and of nested iterators.
+fn has_step(code: u64) -> bool {
+    matches!(code, 70 | 80..=131 | 140..=146)
+}
+
+fn loop_names(message: &str) -> Vec<String> {
+    let list = message.strip_prefix("combinational cycle without a temporal break: ").expect("a loop");
+    list.split(" -> ").map(String::from).collect()
+}
+
+/// The text between the first occurrences of two pieces of a message.
+fn between(message: &str, before: &str, after: &str) -> String {
+    let start = message.find(before).unwrap_or_else(|| panic!("{before} in {message}")) + before.len();
+    let rest = &message[start..];
+    let end = if after.is_empty() { rest.len() } else { rest.find(after).expect("the end of a name") };
+    rest[..end].to_string()
+}
+
+/// The name of a line, by document 01's rule, out of the message. Names hold no spaces, so a piece
+/// with a space in it is found where the message has it.
+fn name_in(d: &Diagnostic, line: &Line, nodes: &[&NodeDef]) -> Option<String> {
+    let m = d.message.as_str();
+    let last = |before: &str| {
+        let rest = between(m, before, "");
+        Some(rest.strip_suffix('`').expect("a closing quote").to_string())
+    };
+    let inner = |before: &str, after: &str| Some(between(m, before, after));
+    match line.code {
+        2 | 4 | 30 | 41 | 70 | 81..=87 | 90..=94 | 110 | 111 | 123 | 124 | 131 | 143..=146 => None,
+        1 => last("duplicate node name `"),
+        3 => last("duplicate constant `"),
+        5 => inner("constant `", "` declared as "),
+        6 => last("duplicate type name `"),
+        7 => last("duplicate enum variant `"),
+        8 => inner("type alias `", "` is recursive "),
+        10 => last("duplicate input `"),
+        11 => inner("output `", "` shadows "),
+        12 => inner("local `", "` shadows "),
+        20 => last("equation defines unknown name `"),
+        21 => inner("name `", "` is assigned "),
+        22 => last("equation assigns input `"),
+        40 => inner("equation `", " = ...` has type "),
+        50 => inner("output `", "` is never "),
+        51 => inner("local `", "` is declared "),
+        80 => last("unknown identifier `"),
+        100 => last("call to unknown node `"),
+        101 => {
+            let caller = if line.place == NODE { nodes[line.number as usize].name.as_str() } else { "<consts>" };
+            last(&format!("function `{caller}` cannot call stateful operator `"))
+        }
+        102 => inner("call to `", "` expects "),
+        103 => inner("call to `", "`: argument "),
+        120 => last("` has no field `"),
+        121 => inner("cannot access field `", "`: `"),
+        122 => inner("cannot access field `", "` on type "),
+        125 => inner("`", "` is not a struct type, so "),
+        126 => last("` has no field `"),
+        127 => inner("` field `", "` expects "),
+        128 => last("` literal is missing field `"),
+        130 => inner("clock `", "` must be bool"),
+        140 => last(" calls unknown function `"),
+        141 => inner(" requires a stateless `function`, but `", "` is a "),
+        142 => inner("'s function `", "` must have "),
+        150 => last("log message references unknown variable `"),
+        _ => panic!("{} is not expected", d.code),
+    }
+}
