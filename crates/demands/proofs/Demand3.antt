@@ -40,7 +40,7 @@ four at-constant = refl
 four at-node = refl
 
 -- the lines about node i, and about no node, are the same before and after names are told as texts
-about-spoken : (i : ℕ) (ls : List Line) → about i (map spoken ls) ≡ map spoken (about-node i ls)
+pub about-spoken : (i : ℕ) (ls : List Line) → about i (map spoken ls) ≡ map spoken (about-node i ls)
 unfolding spoken
 about-spoken i = keep-map (λ l. eqb (l .place) 4 && eqb (l .number) i) spoken (λ l. is-node (l .place) && eqb (l .number) i) (λ l. ap (λ t. t && eqb (l .number) i) (four (l .place)))
 

@@ -49,7 +49,7 @@ module _ (K : Name → Type 0) where
   known-constants [] h = tt
   known-constants (p ∷ ps) h = each-append (Known-constant K) (p .constants) _ (h .0 .constants) (known-constants ps (h .1))
 
-  known-nodes : (P : Project) → Known-project K P → Each (Known-node K) (all-nodes P)
+  pub known-nodes : (P : Project) → Known-project K P → Each (Known-node K) (all-nodes P)
   unfolding all-nodes
   known-nodes [] h = tt
   known-nodes (p ∷ ps) h = each-append (Known-node K) (p .nodes) _ (h .0 .nodes) (known-nodes ps (h .1))
@@ -80,7 +80,7 @@ module _ (K : Name → Type 0) where
     unfolding reads reads-each reads-eachⁱ Known-expr Known-exprs Known-inits
 
     -- what a known expression reads is known
-    known-reads : (e : Expr) → Known-expr K e → Each K (reads e)
+    pub known-reads : (e : Expr) → Known-expr K e → Each K (reads e)
     known-reads (const l w) h = tt
     known-reads (var x) h = (h, tt)
     known-reads (unary o e) h = known-reads e h

@@ -9,3 +9,4 @@ pub mod Order
 pub mod Texts
 pub mod Starts
 pub mod Examples
+pub mod Clears

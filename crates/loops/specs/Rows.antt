@@ -47,3 +47,7 @@ pub record Joined (ws : List ℕ) (a : ℕ) (more ws′ : List ℕ) : Type 0 whe
 -- ws′ is ws with row a empty
 pub record Emptied (ws : List ℕ) (a : ℕ) (ws′ : List ℕ) : Type 0 where
   pub edges : (x y : ℕ) → y < 512 → has ws′ x y ≡ (has ws x y && not (eqb x a))
+
+-- ws′ is ws with the row of each name of the set `names` empty
+pub record Cleared (ws names ws′ : List ℕ) : Type 0 where
+  pub edges : (x y : ℕ) → x < 512 → y < 512 → has ws′ x y ≡ (has ws x y && not (has names 0 x))

@@ -5,7 +5,7 @@
 // are searched is not decided here.
 ghost use Prim.Native.Nat.{_+_, _*_, _≤_, _<_};
 ghost use lib.ListN.{length};
-ghost use Rattle.loops.specs.Rows.{Next, Connected, Joined, Emptied};
+ghost use Rattle.loops.specs.Rows.{Next, Connected, Joined, Emptied, Cleared};
 ghost use Rattle.loops.specs.Steps.{CanEnter, Enters, CanPlace, Places};
 ghost use Rattle.loops.specs.Search.{CanSearch, Searches};
 
@@ -57,6 +57,19 @@ fn next(graph: &[u64], a: usize, from: usize) -> usize
         b = b - b % 64 + 64;
     }
     b
+}
+
+// Takes all edges from each name of the set `names` away.
+pub fn clear_rows(graph: &mut [u64], names: &[u64])
+    requires { ⌜ (4096 ≤ length (now graph)) × (8 ≤ length (now names)) ⌝ }
+    ensures { λ _. ⌜ Cleared (now (graph .entry)) (now (names .entry)) (now (graph .exit)) ⌝ }
+{
+    let mut a = next(names, 0, 0);
+    while a < 512 {
+        let at = a;
+        clear_row(graph, at);
+        a = next(names, 0, at + 1);
+    }
 }
 
 // Where a path that ends in a loop ends, or 0 if none was found; and the looks taken.
