@@ -1,0 +1,4 @@
+pub mod Rows
+pub mod World
+pub mod Sets
+pub mod Writes

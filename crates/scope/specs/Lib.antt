@@ -1,0 +1,5 @@
+pub mod Model
+pub mod Tables
+pub mod Sets
+pub mod Writes
+pub mod Names
