@@ -1,0 +1,6 @@
+pub mod Names
+pub mod Assigned
+pub mod Sides
+pub mod Edges
+pub mod Types
+pub mod Whole
