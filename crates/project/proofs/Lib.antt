@@ -1,0 +1,9 @@
+pub mod Models
+pub mod Lines
+pub mod Closed
+pub mod Answers
+pub mod Clears
+pub mod Whole
+pub mod Demands
+pub mod Constants
+pub mod Nodes
