@@ -1,8 +1,10 @@
 // Runs the check of the input on damaged inputs and prints its answers, a line a case; what they should be stands in `stdout`. Both files
 // are made by tests/inputs/make, whose answers come from a decoder of its own. It reads from standard input; the form of a case is said
 // there. It stops at the first case that does not fit its buffers, and after 4,096 cases.
+use cases::label;
+use cases::little;
+use cases::read_part;
 use input::Input;
-ghost use Prim.Native.Nat.{_<_, _≤_};
 
 // Room for the kinds and words of a case, for its words' bytes and for its text: a little more than document 01 lets pass.
 const RECORDS: usize = 4200;
@@ -10,35 +12,6 @@ const RECORDS: usize = 4200;
 const WORD_BYTES: usize = 33600;
 
 const TEXT: usize = 16500;
-
-fn wide(b: u8) -> u64
-    ensures { λ r. ⌜ r < 256 ⌝ }
-{
-    b as u64
-}
-
-// The byte at a place, 0 past the end.
-fn byte_at(bytes: &[u8], i: usize) -> u64
-    ensures { λ r. ⌜ r < 256 ⌝ }
-{
-    if i >= bytes.len() {
-        return 0;
-    }
-    wide(bytes[i])
-}
-
-// The number of n bytes at a place, low byte first.
-fn little(bytes: &[u8], at: usize, n: usize) -> u64
-    requires { ⌜ (at ≤ 100000) × (n ≤ 8) ⌝ }
-{
-    let mut w: u64 = 0;
-    let mut left = n;
-    while left > 0 {
-        left -= 1;
-        w = w % 72057594037927936 * 256 + byte_at(bytes, at + left);
-    }
-    w
-}
 
 // The words out of their bytes.
 fn decode(bytes: &[u8], words: &mut [u64]) {
@@ -85,40 +58,6 @@ fn print_answer(a: Input) {
         }
     }
     io::write_all(1, b"\n");
-}
-
-// Reads n bytes to the start of a buffer; false where they don't fit or the input ends.
-fn read_part(buffer: &mut [u8], n: usize) -> bool {
-    if n > buffer.len() {
-        return false;
-    }
-    let part = &mut buffer[..n];
-    io::read_full(0, part) >= n
-}
-
-// Prints the first n bytes of a buffer.
-fn print_part(buffer: &[u8], n: usize) -> bool {
-    if n > buffer.len() {
-        return false;
-    }
-    io::write_all(1, &buffer[..n])
-}
-
-// Reads the label of the next case and prints it; false where there is none.
-fn label() -> bool {
-    let mut size = [0u8; 1];
-    if !read_part(&mut size, 1) {
-        return false;
-    }
-    let n = little(&size, 0, 1) as usize;
-    let mut text = [0u8; 256];
-    if !read_part(&mut text, n) {
-        return false;
-    }
-    if !print_part(&text, n) {
-        return false;
-    }
-    io::write_all(1, b": ")
 }
 
 // Checks a case and prints the answer; false where a count is past its buffer.

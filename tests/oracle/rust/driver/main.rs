@@ -1,4 +1,5 @@
 //! The oracle: random models with the Rust's answers (README.md says how to run it).
+mod batch;
 mod express;
 mod focus;
 mod gen;
@@ -145,7 +146,9 @@ fn main() {
         ["gen", seed, count] => generate(seed, count),
         ["codes", seed, count] => codes(seed, count),
         ["check", path] => check(path),
-        _ => Err("usage: oracle gen SEED COUNT | codes SEED COUNT | check FILE".into()),
+        ["stream", seed, count, share] => batch::stream(seed, count, share),
+        ["answers"] => batch::answers(),
+        _ => Err("usage: oracle gen SEED COUNT | codes SEED COUNT | check FILE | stream SEED COUNT SHARE | answers".into()),
     };
     if let Err(why) = done {
         eprintln!("oracle: {why}");

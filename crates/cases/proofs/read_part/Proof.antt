@@ -1,9 +1,9 @@
--- `inputs::read_part` stays within its buffers and ends. Assumes nothing.
+-- `cases::read_part` stays within its buffers and ends. Assumes nothing.
 use native.Mathlib.Omega.{arith}
 use borrow.Author.Needs.{needs}
 use lib.ListN.{length-take}
-use Rattle.inputs.proofs.read_part.Statement.{statement}
-use Rattle.inputs.proofs.read_part.Tie as tie
+use Rattle.cases.proofs.read_part.Statement.{statement}
+use Rattle.cases.proofs.read_part.Tie as tie
 
 returns : tie.Need-returns
 returns c = search needs

@@ -1,9 +1,9 @@
--- `inputs::little` stays within its buffers and ends. Assumes nothing.
+-- `cases::little` stays within its buffers and ends. Assumes nothing.
 use native.Mathlib.Omega.{arith}
 use borrow.Author.Needs.{needs}
 use Prim.Native.Nat.{_≤_}
-use Rattle.inputs.proofs.little.Statement.{statement}
-use Rattle.inputs.proofs.little.Tie as tie
+use Rattle.cases.proofs.little.Statement.{statement}
+use Rattle.cases.proofs.little.Tie as tie
 
 abbrev Inv-loop : tie.InvT-loop
 Inv-loop bytes at n w₀ left₀ w left = left ≤ n
@@ -19,9 +19,6 @@ sub-left c = omega arith
 
 mul-w : tie.Need-mul-w Inv-loop μ-loop
 mul-w c = omega arith
-
-add-byte-at : tie.Need-add-byte-at Inv-loop μ-loop
-add-byte-at c = omega arith
 
 byte-at-requires : tie.Need-byte-at-requires Inv-loop μ-loop
 byte-at-requires c κs = search needs
@@ -47,7 +44,6 @@ little-spec =
     loop-holds
     sub-left
     mul-w
-    add-byte-at
     byte-at-requires
     add-w
     loop-less

@@ -1,9 +1,9 @@
--- `inputs::print_part` stays within its buffers and ends. Assumes nothing.
+-- `cases::print_part` stays within its buffers and ends. Assumes nothing.
 use native.Mathlib.Omega.{arith}
 use borrow.Author.Needs.{needs}
 use lib.ListN.{length-take}
-use Rattle.inputs.proofs.print_part.Statement.{statement}
-use Rattle.inputs.proofs.print_part.Tie as tie
+use Rattle.cases.proofs.print_part.Statement.{statement}
+use Rattle.cases.proofs.print_part.Tie as tie
 
 returns : tie.Need-returns
 returns c = search needs

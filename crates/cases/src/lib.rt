@@ -1,0 +1,145 @@
+// What the test programs share: numbers out of bytes, reading and printing a part of a buffer, the label of a case, and buffers that are
+// filled with marks, none of them zero, so that what a call leaves alone is seen. No function has a `requires`.
+ghost use Prim.Native.Nat.{_<_};
+
+// The mark at place 0; those behind it are larger.
+const MARK: u64 = 6148914691236517205;
+
+// A byte as a number.
+fn wide(b: u8) -> u64
+    ensures { λ r. ⌜ r < 256 ⌝ }
+{
+    b as u64
+}
+
+// The byte at a distance from a place, 0 past the end.
+fn byte_at(bytes: &[u8], at: usize, i: usize) -> u64
+    ensures { λ r. ⌜ r < 256 ⌝ }
+{
+    if at >= bytes.len() {
+        return 0;
+    }
+    if i >= bytes.len() - at {
+        return 0;
+    }
+    wide(bytes[at + i])
+}
+
+// The number of n bytes at a place, low byte first.
+pub fn little(bytes: &[u8], at: usize, n: usize) -> u64 {
+    let mut w: u64 = 0;
+    let mut left = n;
+    while left > 0 {
+        left -= 1;
+        w = w % 72057594037927936 * 256 + byte_at(bytes, at, left);
+    }
+    w
+}
+
+// Reads n bytes to the start of a buffer; false where they don't fit or the input ends.
+pub fn read_part(buffer: &mut [u8], n: usize) -> bool {
+    if n > buffer.len() {
+        return false;
+    }
+    let part = &mut buffer[..n];
+    io::read_full(0, part) >= n
+}
+
+// Prints the first n bytes of a buffer; false where there are fewer or they can't be written.
+pub fn print_part(buffer: &[u8], n: usize) -> bool {
+    if n > buffer.len() {
+        return false;
+    }
+    io::write_all(1, &buffer[..n])
+}
+
+// Reads the label of the next case, its length before it, and prints it; false where there is none.
+pub fn label() -> bool {
+    let mut size = [0u8; 1];
+    if !read_part(&mut size, 1) {
+        return false;
+    }
+    let n = little(&size, 0, 1) as usize;
+    let mut text = [0u8; 256];
+    if !read_part(&mut text, n) {
+        return false;
+    }
+    if !print_part(&text, n) {
+        return false;
+    }
+    io::write_all(1, b": ")
+}
+
+// The mark of a place.
+fn mark(i: usize) -> u64 {
+    MARK + i as u64 % 65536
+}
+
+// Fills a buffer with marks.
+pub fn fill(words: &mut [u64]) {
+    let mut i = 0;
+    while i < words.len() {
+        words[i] = mark(i);
+        i += 1;
+    }
+}
+
+// Says whether a buffer has its marks from a place on.
+pub fn is_filled(words: &[u64], from: usize) -> bool {
+    let mut i = from;
+    while i < words.len() {
+        if words[i] != mark(i) {
+            return false;
+        }
+        i += 1;
+    }
+    true
+}
+
+// Says whether every word is zero.
+pub fn is_zero(words: &[u64]) -> bool {
+    let mut i = 0;
+    while i < words.len() {
+        if words[i] != 0 {
+            return false;
+        }
+        i += 1;
+    }
+    true
+}
+
+// Says whether the first n words are those of these bytes, eight bytes a word.
+pub fn same_words(words: &[u64], n: usize, bytes: &[u8]) -> bool {
+    if n > words.len() {
+        return false;
+    }
+    if n > bytes.len() / 8 {
+        return false;
+    }
+    let mut i = 0;
+    while i < n {
+        if words[i] != little(bytes, 8 * i, 8) {
+            return false;
+        }
+        i += 1;
+    }
+    true
+}
+
+// Says whether the first n bytes of a buffer are a text, and all of it.
+pub fn same_bytes(buffer: &[u8], n: usize, text: &[u8]) -> bool {
+    if n > buffer.len() {
+        return false;
+    }
+    if n != text.len() {
+        return false;
+    }
+    let mut i = 0;
+    while i < n {
+        if buffer[i] != text[i] {
+            return false;
+        }
+        i += 1;
+    }
+    true
+}

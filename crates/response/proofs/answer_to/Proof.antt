@@ -1,0 +1,64 @@
+-- `response::answer_to` stays within its buffers and ends. Assumes nothing.
+use native.Mathlib.Omega.{arith}
+use borrow.Author.Needs.{needs}
+use lib.ListN.{length-take}
+use Rattle.response.proofs.Files.{parts-few}
+use Rattle.response.proofs.answer_to.Statement.{statement}
+use Rattle.response.proofs.answer_to.Tie as tie
+
+slice-aggregate-decode : tie.Need-slice-aggregate-decode
+slice-aggregate-decode c = search needs
+
+decode-requires : tie.Need-decode-requires
+decode-requires c κs = search needs
+
+enum-known-n : tie.Need-enum-known-n
+enum-known-n c = search needs
+
+kinds-in-requires : tie.Need-kinds-in-requires
+kinds-in-requires c κs = search needs
+
+array-share-prefix-words : tie.Need-array-share-prefix-words
+array-share-prefix-words c = omega (arith, parts-few (c .before .before .before .before .before .decode .ensures) (c .before .before .n .given .1))
+
+slice-aggregate-check : tie.Need-slice-aggregate-check
+slice-aggregate-check c = simp length-take (omega (arith, parts-few (c .before .before .before .before .before .before .decode .ensures) (c .before .before .before .n .given .1)))
+
+text-in-requires : tie.Need-text-in-requires
+text-in-requires c κs = search needs
+
+check-requires : tie.Need-check-requires
+check-requires c κs = search needs
+
+enum-told : tie.Need-enum-told
+enum-told c = search needs
+
+same-length : tie.Need-same-length
+same-length c = search needs
+
+same-length-2 : tie.Need-same-length-2
+same-length-2 c = search needs
+
+returns : tie.Need-returns
+returns c = search needs
+
+returns-2 : tie.Need-returns-2
+returns-2 c = search needs
+
+pub answer-to-spec : {M : Type 1} → statement M
+answer-to-spec =
+    tie.close
+    (tie.spec
+    slice-aggregate-decode
+    decode-requires
+    enum-known-n
+    kinds-in-requires
+    array-share-prefix-words
+    slice-aggregate-check
+    text-in-requires
+    check-requires
+    enum-told
+    same-length
+    same-length-2
+    returns
+    returns-2)

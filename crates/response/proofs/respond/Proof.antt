@@ -1,0 +1,51 @@
+-- `response::respond` stays within its buffers and ends. Assumes nothing.
+use native.Mathlib.Omega.{arith}
+use borrow.Author.Needs.{needs}
+use Rattle.response.proofs.Printing.{filled-within}
+use Rattle.response.proofs.respond.Statement.{statement}
+use Rattle.response.proofs.respond.Tie as tie
+
+slice-aggregate-answer-to : tie.Need-slice-aggregate-answer-to
+slice-aggregate-answer-to c = search needs
+
+slice-aggregate-answer-to-2 : tie.Need-slice-aggregate-answer-to-2
+slice-aggregate-answer-to-2 c = search needs
+
+answer-to-requires : tie.Need-answer-to-requires
+answer-to-requires c κs = search needs
+
+text-in-requires : tie.Need-text-in-requires
+text-in-requires c κs = search needs
+
+slice-aggregate-render : tie.Need-slice-aggregate-render
+slice-aggregate-render c = search needs
+
+render-requires : tie.Need-render-requires
+render-requires c κs = search needs
+
+slice-aggregate-status : tie.Need-slice-aggregate-status
+slice-aggregate-status c = search needs
+
+status-requires : tie.Need-status-requires
+status-requires c κs = search needs
+
+same-length : tie.Need-same-length
+same-length c = search needs
+
+returns : tie.Need-returns
+returns c = filled-within (c .before .before .before .before .render .ensures) (omega arith)
+
+pub respond-spec : {M : Type 1} → statement M
+respond-spec =
+    tie.close
+    (tie.spec
+    slice-aggregate-answer-to
+    slice-aggregate-answer-to-2
+    answer-to-requires
+    text-in-requires
+    slice-aggregate-render
+    render-requires
+    slice-aggregate-status
+    status-requires
+    same-length
+    returns)
