@@ -6,19 +6,16 @@ use lustre::Answer;
 use lustre::Line;
 ghost use Prim.Native.Nat.{_+_, _≤_, _<_};
 ghost use mathlib.Core.Path.{_≡_};
-ghost use mathlib.Core.List.{[], _∷_, _++_, map};
-ghost use lib.ListN.{length, take};
+ghost use mathlib.Core.List.{[], _∷_, _++_};
+ghost use lib.ListN.{length};
 ghost use Rattle.lustre.specs.Line.{severity};
 ghost use Rattle.lustre.specs.Names.{names-of};
-ghost use Rattle.format.specs.Output.{bytes, decimal, four-digits, field, front, header, line-count, output-lines};
+ghost use Rattle.format.specs.Output.{bytes, decimal, four-digits, field, front, header};
 ghost use Rattle.format.specs.Output.{letter as Output·letter, code as Output·code, place as Output·place, line as Output·line};
-ghost use Rattle.format.specs.Buffers.{Put, Rendered, Filled};
+ghost use Rattle.format.specs.Buffers.{Put, Rendered};
 
 // Room for the longest header, which has 57 bytes with its newline, and for the longest line up to its name, 106.
 const FRONT: usize = 128;
-
-// The lines that program `check` lends.
-const LINES: usize = 1024;
 
 // Stores a byte, if there is room, and answers the position behind it.
 fn put_byte(out: &mut [u8], at: usize, b: u8) -> usize
@@ -205,53 +202,4 @@ pub fn render_line(out: &mut [u8], text: &[u8], l: Line) -> usize
         return lay(out, &start[..end], b"-");
     }
     lay(out, &start[..end], names::name(text, name as usize))
-}
-
-// The number of lines behind the header of an answer.
-fn line_count(a: Answer) -> u64
-    ensures { λ r. ⌜ r ≡ line-count a ⌝ }
-{
-    let n = lustre::as_numbers(a);
-    if n.refusal == 0 {
-        return n.first;
-    }
-    0
-}
-
-// Renders the first lines of the report from a position on, as many as are counted and fit.
-fn render_lines(
-    out: &mut [u8],
-    start: usize,
-    text: &[u8],
-    lines: [Line; LINES],
-    count: u64,
-) -> usize
-    requires { ⌜ start ≤ length (now out) ⌝ }
-    ensures { λ r. ⌜ Filled (map (Output·line (names-of (now (text .entry)))) (take count lines)) (now (out .entry)) start r (now (out .exit)) ⌝ }
-{
-    let mut at = start;
-    let mut i = 0;
-    while i < LINES {
-        if i as u64 >= count {
-            return at;
-        }
-        let k = render_line(&mut out[at..], text, lines[i]);
-        if k == 0 {
-            return at;
-        }
-        at += k;
-        i += 1;
-    }
-    at
-}
-
-// Renders the whole output, as many of its first lines as fit, and answers the number of bytes.
-pub fn render_output(out: &mut [u8], text: &[u8], lines: [Line; LINES], a: Answer) -> usize
-    ensures { λ r. ⌜ Filled (output-lines a lines (now (text .entry))) (now (out .entry)) 0 r (now (out .exit)) ⌝ }
-{
-    let start = render_answer(out, a);
-    if start == 0 {
-        return 0;
-    }
-    render_lines(out, start, text, lines, line_count(a))
 }

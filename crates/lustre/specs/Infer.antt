@@ -189,14 +189,14 @@ module _ (Γ : Scope) where
     b ← second (or-else hint a)
     agree-rule at code a b
 
-  -- lib.rs 900
+  -- lib.rs 901
   unfoldable pub if-rule : ℕ → Typing → Typing → Typing → Typing
   if-rule at cond first second hint = do
     c ← cond (some Boolean)
     require (is-bool (res c)) (plain at 90)
     both at 91 first second hint
 
-  -- lib.rs 981
+  -- lib.rs 983
   unfoldable pub argument : ℕ → Name → Typing → Ty → Out (Unit {0})
   argument at f a want = do
     t ← try (a (some want))
@@ -313,7 +313,7 @@ module _ (Γ : Scope) where
     add (clock at c)
     both at 131 first second hint
 
-  -- lib.rs 1284: an iterator's array
+  -- lib.rs 1285: an iterator's array
   unfoldable pub operand : ℕ → Typing → Out (ℕ × Ty)
   operand at a = do
     t ← a none
@@ -326,7 +326,7 @@ module _ (Γ : Scope) where
     rest ← arrays at as′
     return (one ∷ rest)
 
-  -- lib.rs 1333
+  -- lib.rs 1334
   unfoldable pub inputs-agree : List Port → List (ℕ × Ty) → Bool
   inputs-agree [] as′ = true
   inputs-agree (p ∷ ps) [] = true
@@ -343,7 +343,7 @@ module _ (Γ : Scope) where
     t ← try (seed (some acc))
     seed-agrees at acc t
 
-  -- lib.rs 1398: the first array's elements alone
+  -- lib.rs 1399: the first array's elements alone
   unfoldable pub element-rule : ℕ → Ty → List (ℕ × Ty) → Out (Unit {0})
   element-rule at want [] = return tt
   element-rule at want (a ∷ as′) = require (agrees want (a .1)) (plain at 145)
@@ -361,7 +361,7 @@ module _ (Γ : Scope) where
     element-rule at (two .1) as′
     return out
 
-  -- lib.rs 1258 to 1316
+  -- lib.rs 1257 to 1316
   unfoldable pub iterate-of : ℕ → IterKind → Name → Option Typing → List Typing → Heading → Out Ty
   iterate-of at k f seed operands′ sig = do
     require (is-function (sig .kind)) (named at 141 f)

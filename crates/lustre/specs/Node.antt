@@ -87,7 +87,7 @@ equations-remarks Γ n env seen i (q ∷ qs) =
     map (of-equation i) (equation-notes Γ n env seen q)
     ++ equations-remarks Γ n env (q .lhs ++ seen) (suc i) qs
 
--- lib.rs 494: only an operator is searched here, since imported nodes have been left before
+-- lib.rs 495: only an operator is searched here, since imported nodes have been left before
 unfoldable pub cycle-notes : NodeKind → List Equation → List Note
 cycle-notes Function qs = []
 cycle-notes Operator qs = loop-notes (path-of (search qs))

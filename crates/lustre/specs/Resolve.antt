@@ -1,4 +1,4 @@
--- What names mean, and types without aliases: `TypeContext`, lib.rs 48 to 132, and `types_compatible`, lib.rs 692.
+-- What names mean, and types without aliases: `TypeContext`, lib.rs 49 to 132, and `types_compatible`, lib.rs 692.
 -- Assumes nothing: these are definitions.
 use Prim.Native.Nat.{ℕ, zero, suc}
 use mathlib.Core.Bool.{Bool, true, false}
@@ -37,7 +37,7 @@ variants-of (Alias x t ∷ ds) = variants-of ds
 variants-of (Record x fs ∷ ds) = variants-of ds
 variants-of (Enum x vs ∷ ds) = map (λ v. (v, x)) vs ++ variants-of ds
 
--- `TypeContext::from_project`, lib.rs 64, and the signatures, lib.rs 173: of equal names the last declaration is in force. No port is
+-- `TypeContext::from_project`, lib.rs 64, and the signatures, lib.rs 174: of equal names the last declaration is in force. No port is
 -- in scope here, as for a constant's value.
 unfoldable pub context : Skeleton → Scope
 context s = record {

@@ -119,7 +119,7 @@ pub struct Judged {
     pub looks: u64,
 }
 
-// The lines of the loop that the search finds, lib.rs 494, and the looks that it takes; none in a function. `path` is lent to the search.
+// The lines of the loop that the search finds, lib.rs 495, and the looks that it takes; none in a function. `path` is lent to the search.
 fn check_loops(
     graph: &[u64],
     assigned: &[u64],

@@ -1,5 +1,5 @@
 // A node's ports and locals: entered into the scope when its check begins, and taken out again when it ends, so that a node costs what its
-// own lists cost; and the lines on names that repeat or are wanting: lib.rs 353 to 376, 475 to 492 and 505 to 520.
+// own lists cost; and the lines on names that repeat or are wanting: lib.rs 353 to 376, 475 to 492 and 510 to 520.
 use lines::Spot;
 use lines::put_line;
 use loops::connect;
@@ -122,7 +122,7 @@ fn absent_probe(scope: &[u64], name: u64, q: Spot, out: &mut [u64], n: u64) -> u
     n
 }
 
-// A line for each probe of the list at a place whose name is not in force, lib.rs 505.
+// A line for each probe of the list at a place whose name is not in force, lib.rs 510.
 pub fn absent_probes(
     words: &[u64],
     scope: &[u64],

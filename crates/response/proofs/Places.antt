@@ -4,19 +4,14 @@ use Prim.Native.Nat.{ℕ, zero, suc, _+_, _*_, _-_, _<_, _≤_}
 use native.Mathlib.Omega.{arith}
 use mathlib.Core.Path.{_≡_, refl, sym, ap, _∙_}
 use mathlib.Core.Bool.{Bool, true, false, _||_}
-use mathlib.Core.List.{List, [], _∷_}
-use borrow.Author.Tests.{eq-eqb, ne-eqb}
-use lib.Dec.{eqb}
+use mathlib.Core.List.{List}
+use borrow.Author.Tests.{ne-eqb}
 use lib.ListN.{length, getD, take, drop, drop-of-length-le}
 use lib.Seq.{getD-drop, drop-cons, take-nil}
-use Rattle.lustre.specs.Name.{if_then_else_}
-use Rattle.lustre.specs.Line.{Severity, Error, Warning, severity}
-use Rattle.lustre.specs.Answer.{refusal-of, first-of, second-of}
+use Rattle.lustre.specs.Line.{Error, Warning, severity}
 use Rattle.lustre.specs.declared.Line.{Line}
-use Rattle.lustre.specs.declared.Answer.{Answer}
 use Rattle.lines.specs.Lines.{line-in, room}
-use Rattle.format.specs.Output.{line-count}
-use Rattle.response.specs.Response.{lines-in, lines-of, is-error, any-error, status-of}
+use Rattle.response.specs.Response.{lines-in, lines-of, is-error, any-error}
 
 -- a buffer has as many lines as it has places for
 pub length-lines : (n : ℕ) (o : List ℕ) → length (lines-in n o) ≡ n

@@ -6,7 +6,7 @@ use mathlib.Core.Path.{_≡_, refl, sym, subst, ap, _∙_}
 use mathlib.Core.Bool.{Bool, true, false}
 use mathlib.Core.List.{List, [], _∷_, _++_, map}
 use borrow.Author.Tests.{leb-true, eq-eqb, ne-eqb}
-use lib.Dec.{eqb, leb}
+use lib.Dec.{leb}
 use lib.ListN.{length, take, drop, getD, length-append}
 use Rattle.lustre.specs.Name.{if_then_else_}
 use Rattle.lustre.specs.Answer.{refusal-of, first-of, second-of}

@@ -18,14 +18,15 @@ ghost use Rattle.lustre.specs.Names.{names-of};
 ghost use Rattle.lines.specs.Lines.{line-in};
 ghost use Rattle.format.specs.Output.{line-count, line, output-lines};
 ghost use Rattle.format.specs.Buffers.{Filled};
-ghost use Rattle.response.specs.Response.{lines-of, any-error, status-of};
+ghost use Rattle.response.specs.Response.{lines-of, any-error, status-of, Answered, Responded};
 
 // Refusal 1's bound on records.
 const RECORDS: usize = 4096;
 
-// What the program lends: work words, and the words of its lines.
+// The work words that the program lends.
 const WORK: usize = 4096;
 
+// The words of the 1,024 lines that it lends.
 const LINES: usize = 6144;
 
 // What is said of a file: the number of bytes printed, and 0 for a report without an error, 1 for one with an error, 2 for a refusal.
@@ -35,7 +36,9 @@ pub struct Response {
 }
 
 // The answer to a file, with this work memory and these lines lent; refusal 1 for a wrong file.
-pub fn answer_to(file: &[u8], work: &mut [u64], lines: &mut [u64]) -> Answer {
+pub fn answer_to(file: &[u8], work: &mut [u64], lines: &mut [u64]) -> Answer
+    ensures { λ r. ⌜ Answered (now (file .entry)) (now (work .entry)) (now (lines .entry)) r (now (work .exit)) (now (lines .exit)) ⌝ }
+{
     let mut words = [0u64; RECORDS];
     match decode(file, &mut words) {
         File::Parts(n, _) => project::check(
@@ -144,6 +147,7 @@ fn status(a: Answer, lines: &[u64]) -> u64
 
 // Renders what is printed for a file.
 pub fn respond(file: &[u8], out: &mut [u8]) -> Response
+    ensures { λ r. ⌜ Responded (now (file .entry)) (now (out .entry)) r (now (out .exit)) ⌝ }
     ensures { λ r. ⌜ r .size ≤ length (now (out .entry)) ⌝ }
 {
     let mut work = [0u64; WORK];

@@ -42,7 +42,7 @@ pub fn hint_of(typ: Typ) -> Hint
     Hint { given: true, typ }
 }
 
-// The hint, or else the type t: `then_ty`'s place in lib.rs 921.
+// The hint, or else the type t: `else_hint`, lib.rs 917.
 pub fn or_else(hint: Hint, t: Typ) -> Hint
     requires { ⌜ Known (hint .typ) × Known t ⌝ }
     ensures { λ r. ⌜ ((ρ : Naming) → HintIs ρ (or-else (asHint ρ hint) (asTy ρ t)) (max (t .levels) (hint .typ .levels)) r) ⌝ }

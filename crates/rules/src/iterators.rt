@@ -351,7 +351,7 @@ fn no_fold(out: &mut [u64], q: Spot, n: u64, step: usize) -> FoldInputs
     }
 }
 
-// A fold's first array beside the type of its element, lib.rs 1398: E0145.
+// A fold's first array beside the type of its element, lib.rs 1399: E0145.
 fn element_rule(
     kinds: &[u8],
     words: &[u64],

@@ -46,7 +46,7 @@ pub fn struct_name(kinds: &[u8], words: &[u64], scope: &[u64], name: u64) -> u64
     s.name
 }
 
-// The record of a name, lib.rs 1137: E0125. If ok, the list of its fields.
+// The record of a name, lib.rs 1139: E0125. If ok, the list of its fields.
 pub fn record_of(
     kinds: &[u8],
     words: &[u64],

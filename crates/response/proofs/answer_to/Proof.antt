@@ -1,8 +1,9 @@
--- `response::answer_to` stays within its buffers and ends. Assumes nothing.
+-- `response::answer_to` meets its contract: the call on the parts of the file, or a wrong file. Assumes nothing.
 use native.Mathlib.Omega.{arith}
 use borrow.Author.Needs.{needs}
 use lib.ListN.{length-take}
 use Rattle.response.proofs.Files.{parts-few}
+use Rattle.response.proofs.Answers.{answered-parts, answered-wrong}
 use Rattle.response.proofs.answer_to.Statement.{statement}
 use Rattle.response.proofs.answer_to.Tie as tie
 
@@ -40,10 +41,10 @@ same-length-2 : tie.Need-same-length-2
 same-length-2 c = search needs
 
 returns : tie.Need-returns
-returns c = search needs
+returns c = answered-parts _ _ _ _ _ _ _ _ _ _ _ _ _ (c .before .before .before .before .before .before .before .before .before .before .before .before .before .before .decode .ensures) (c .before .before .before .before .before .before .before .before .before .before .before .n .given .1) (c .before .before .before .before .before .before .before .before .before .kinds-in .ensures) (c .before .before .before .before .before .before .before .text-in .ensures) (c .before .before .before .before .check .ensures)
 
 returns-2 : tie.Need-returns-2
-returns-2 c = search needs
+returns-2 c = answered-wrong _ _ _ _ _ _ (omega arith) (c .before .before .before .decode .ensures) (c .enum-told .given .1)
 
 pub answer-to-spec : {M : Type 1} → statement M
 answer-to-spec =

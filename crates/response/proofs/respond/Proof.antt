@@ -1,7 +1,9 @@
--- `response::respond` stays within its buffers and ends. Assumes nothing.
+-- `response::respond` meets its contract: the answer and its lines are rendered. Assumes nothing.
 use native.Mathlib.Omega.{arith}
 use borrow.Author.Needs.{needs}
+use mathlib.Core.Path.{refl}
 use Rattle.response.proofs.Printing.{filled-within}
+use Rattle.response.proofs.Answers.{responded}
 use Rattle.response.proofs.respond.Statement.{statement}
 use Rattle.response.proofs.respond.Tie as tie
 
@@ -33,7 +35,7 @@ same-length : tie.Need-same-length
 same-length c = search needs
 
 returns : tie.Need-returns
-returns c = filled-within (c .before .before .before .before .render .ensures) (omega arith)
+returns c = (responded _ _ _ _ _ _ _ _ _ _ refl refl (c .before .before .before .before .before .before .before .before .before .before .answer-to .ensures) (c .before .before .before .before .before .before .text-in .ensures) (c .before .before .before .before .render .ensures) (c .status .ensures), filled-within (c .before .before .before .before .render .ensures) (omega arith))
 
 pub respond-spec : {M : Type 1} → statement M
 respond-spec =

@@ -1,0 +1,241 @@
+-- Laws of the answer to a file: what is printed and the status depend on the report alone, where the lines that the program lends hold it.
+-- Assumes nothing.
+use Prim.Native.Nat.{ℕ, zero, suc, _+_, _*_, _≤_, min}
+use native.Mathlib.Omega.{arith}
+use mathlib.Core.Path.{_≡_, refl, sym, subst, ap, _∙_}
+use mathlib.Core.Bool.{Bool, true, false}
+use mathlib.Core.List.{List, [], _∷_, _++_, map, flatMap, append-nil}
+use mathlib.Core.Option.{Option, none, some}
+use borrow.Author.Tests.{leb-true, eq-eqb, ne-eqb, eqb-true, eqb-false}
+use lib.Dec.{eqb, leb}
+use lib.ListN.{length, take, drop, length-map, length-append, length-drop}
+use lib.Seq.{take-all}
+use Rattle.lustre.specs.Name.{if_then_else_}
+use Rattle.lustre.specs.Names.{bad-name, names-of}
+use Rattle.lustre.specs.Records.{bad-record}
+use Rattle.lustre.specs.Project.{Project}
+use Rattle.lustre.specs.Report.{report, followed}
+use Rattle.lustre.specs.Answer.{refusal-of, first-of, bad-sizes, short-work, no-project, spelled, too-deep-at, project-of, refuse, lowest, reported, answer, writes, stored, stored-report}
+use Rattle.lustre.specs.declared.Line.{Line}
+use Rattle.lustre.specs.declared.Answer.{Answer}
+use Rattle.lustre.specs.declared.Answer.the-variants.{Report, Sizes, ShortWork, BadName, BadRecord, NoProject, TooDeep, MoreLines}
+use Rattle.lines.specs.Lines.{words, line-in, room}
+use Rattle.format.specs.File.{Model, parse, kinds-of, text-of, Decoded}
+use Rattle.format.specs.Output.{line, header, line-count, output-lines, joined, printed, output-of}
+use Rattle.format.specs.Buffers.{Rendered, Filled}
+use Rattle.format.specs.declared.File.{File}
+use Rattle.format.specs.declared.File.the-variants.{Wrong, Parts}
+use Rattle.format.proofs.Fill.{output-whole}
+use Rattle.format.proofs.Room.{header-short, output-always, names-short}
+use Rattle.format.proofs.Callers.{decoded-wrong, decoded-parts}
+use Rattle.project.specs.Call.{over-words, buffer-after, Called}
+use Rattle.response.specs.declared.Response.{Response}
+use Rattle.response.specs.Response.{lines-in, lines-of, any-error, status-of, lines-to, status-to, Answered, Responded}
+
+-- a refusal that does not apply
+passed : (o : Option ℕ) (f : ℕ → Answer) (rest : Answer) → ((at : ℕ) → refusal-of (f at) ≡ 0 → ⊥) → refusal-of (refuse o f rest) ≡ 0 → (o ≡ none) × (refuse o f rest ≡ rest)
+unfolding refuse
+passed none f rest h e = (refl, refl)
+passed (some at) f rest h e = absurd (h at e)
+
+-- a report is what is left when no refusal from 1 to 6 applies; refusal 3 does not
+report-only : (kinds ws text : List ℕ) (work room : ℕ) → refusal-of (answer kinds ws text work room) ≡ 0 → (bad-name text ≡ none) × (answer kinds ws text work room ≡ reported room (project-of kinds ws text))
+unfolding answer lowest
+report-only kinds ws text work room e =
+    let r₇ : Answer = reported room (project-of kinds ws text) in
+    let r₆ : Answer = refuse (too-deep-at (spelled kinds ws text)) TooDeep r₇ in
+    let r₅ : Answer = refuse (no-project (spelled kinds ws text)) NoProject r₆ in
+    let r₄ : Answer = refuse (bad-record (length (names-of text)) 0 kinds ws) BadRecord r₅ in
+    let r₃ : Answer = refuse (bad-name text) BadName r₄ in
+    let r₂ : Answer = refuse (short-work work) ShortWork r₃ in
+    let p₁ = passed (bad-sizes kinds ws text) (λ at. Sizes) r₂ (λ at z. omega arith) e in
+    let p₂ = passed (short-work work) ShortWork r₃ (λ at z. omega arith) (ap refusal-of (sym (p₁ .1)) ∙ e) in
+    let p₃ = passed (bad-name text) BadName r₄ (λ at z. omega arith) (ap refusal-of (sym (p₁ .1 ∙ p₂ .1)) ∙ e) in
+    let p₄ = passed (bad-record (length (names-of text)) 0 kinds ws) BadRecord r₅ (λ at z. omega arith) (ap refusal-of (sym (p₁ .1 ∙ p₂ .1 ∙ p₃ .1)) ∙ e) in
+    let p₅ = passed (no-project (spelled kinds ws text)) NoProject r₆ (λ at z. omega arith) (ap refusal-of (sym (p₁ .1 ∙ p₂ .1 ∙ p₃ .1 ∙ p₄ .1)) ∙ e) in
+    let p₆ = passed (too-deep-at (spelled kinds ws text)) TooDeep r₇ (λ at z. omega arith) (ap refusal-of (sym (p₁ .1 ∙ p₂ .1 ∙ p₃ .1 ∙ p₄ .1 ∙ p₅ .1)) ∙ e) in
+    (p₃ .0, p₁ .1 ∙ p₂ .1 ∙ p₃ .1 ∙ p₄ .1 ∙ p₅ .1 ∙ p₆ .1)
+
+-- a report has as many lines as it says, and they fit the room
+reported-fits : (room : ℕ) (P : Project) → refusal-of (reported room P) ≡ 0 → (first-of (reported room P) ≡ length (report P)) × (length (report P) ≤ room)
+unfolding reported
+reported-fits room P = go (leb (length (report P)) room) refl
+  where
+    go : (t : Bool) → leb (length (report P)) room ≡ t → refusal-of (if leb (length (report P)) room then Report (length (report P)) (followed P) else MoreLines (min (length (report P)) 18_446_744_073_709_551_615)) ≡ 0 → (first-of (if leb (length (report P)) room then Report (length (report P)) (followed P) else MoreLines (min (length (report P)) 18_446_744_073_709_551_615)) ≡ length (report P)) × (length (report P) ≤ room)
+    go true e h = (simp e, leb-true (length (report P)) room e)
+    go false e h = absurd (let z : _≡_ {A = ℕ} 7 0 = rw e at h in omega arith)
+
+-- what a report says: its names are short, and its lines are those of the definition and fit
+pub record Reported (kinds ws text : List ℕ) (room : ℕ) (a : Answer) : Type 0 where
+  pub named : bad-name text ≡ none
+  pub count : line-count a ≡ length (stored-report kinds ws text)
+  pub fits : length (stored-report kinds ws text) ≤ room
+
+-- that of the call's answer
+pub is-reported : (kinds ws text : List ℕ) (work room : ℕ) (a : Answer) → a ≡ answer kinds ws text work room → refusal-of a ≡ 0 → Reported kinds ws text room a
+unfolding stored-report line-count
+is-reported kinds ws text work room a e z =
+    let P : Project = project-of kinds ws text in
+    let o = report-only kinds ws text work room (ap refusal-of (sym e) ∙ z) in
+    let s : a ≡ reported room P = e ∙ o .1 in
+    let f = reported-fits room P (ap refusal-of (sym s) ∙ z) in
+    let same : length (map (stored (names-of text)) (report P)) ≡ length (report P) = length-map (report P) (stored (names-of text)) in
+    record {
+      named = o .0;
+      count = simp (eq-eqb (refusal-of a) 0 z) (ap first-of s ∙ f .0 ∙ sym same);
+      fits = omega (arith, f .1);
+    }
+
+-- the lines of a buffer that begins with the words of lines
+take-lines : (n : ℕ) (ls : List Line) (rest : List ℕ) → length ls ≤ n → take (length ls) (lines-in n (flatMap words ls ++ rest)) ≡ ls
+unfolding lines-in flatMap words line-in
+take-lines n [] rest h = refl
+take-lines zero (l ∷ ls) rest h = absurd (omega arith)
+take-lines (suc n) (l ∷ ls) rest h = ap (λ (xs : List Line). l ∷ xs) (take-lines n ls rest (omega arith))
+
+-- six words a line
+length-flat : (ls : List Line) → length (flatMap words ls) ≡ length ls * 6
+unfolding flatMap words
+length-flat [] = refl
+length-flat (l ∷ ls) = let e = length-flat ls in omega arith
+
+-- a buffer with room for the lines holds them
+over-holds : (ls : List Line) (lent : List ℕ) → length ls ≤ room lent → take (length ls) (lines-of (over-words ls lent)) ≡ ls
+unfolding over-words
+over-holds ls lent h =
+    let all : take (room lent) ls ≡ ls = take-all (room lent) ls h in
+    let long : length (flatMap words ls ++ drop (length ls * 6) lent) ≡ length lent = simp (length-append, length-drop, length-flat) (omega arith) in
+    let same : flatMap words (take (room lent) ls) ++ drop (length (take (room lent) ls) * 6) lent ≡ flatMap words ls ++ drop (length ls * 6) lent = ap (λ (xs : List Line). flatMap words xs ++ drop (length xs * 6) lent) all in
+    ap (λ (o : List ℕ). take (length ls) (lines-of o)) same ∙ take-lines (room (flatMap words ls ++ drop (length ls * 6) lent)) ls (drop (length ls * 6) lent) (omega arith)
+
+-- a report is an answer after which lines are written
+report-writes : (a : Answer) → refusal-of a ≡ 0 → writes a ≡ true
+unfolding writes
+report-writes a z = ap (λ (b : Bool). elim b [ true ↦ true | false ↦ eqb (refusal-of a) 7 ]) (eq-eqb (refusal-of a) 0 z)
+
+-- those that fit
+report-over : (kinds ws text : List ℕ) (work : ℕ) (lent : List ℕ) (a : Answer) → a ≡ answer kinds ws text work (room lent) → refusal-of a ≡ 0 → buffer-after kinds ws text work lent ≡ over-words (stored-report kinds ws text) lent
+unfolding buffer-after
+report-over kinds ws text work lent a e z =
+    ap (λ (b : Bool). elim b [ true ↦ over-words (stored-report kinds ws text) lent | false ↦ lent ])
+    (report-writes (answer kinds ws text work (room lent)) (ap refusal-of (sym e) ∙ z))
+
+-- no lines are counted behind a refusal
+none-counted : (a : Answer) → (refusal-of a ≡ 0 → ⊥) → line-count a ≡ 0
+unfolding line-count
+none-counted a h = simp (ne-eqb (refusal-of a) 0 h)
+
+-- the lines that are printed after the call are those of the report
+pub called-lines : {kinds ws text work lent work′ lent′ : List ℕ} {a : Answer} → Called kinds ws text work lent a work′ lent′ → take (line-count a) (lines-of lent′) ≡ take (line-count a) (stored-report kinds ws text)
+called-lines {kinds} {ws} {text} {work} {lent} {work′} {lent′} {a} c = go (eqb (refusal-of a) 0) refl
+  where
+    go : (t : Bool) → eqb (refusal-of a) 0 ≡ t → take (line-count a) (lines-of lent′) ≡ take (line-count a) (stored-report kinds ws text)
+    go true t =
+        let z : refusal-of a ≡ 0 = eqb-true (refusal-of a) 0 t in
+        let r = is-reported kinds ws text (length work) (room lent) a (c .answered) z in
+        let ls : List Line = stored-report kinds ws text in
+        let e : lent′ ≡ over-words ls lent = c .lines ∙ report-over kinds ws text (length work) lent a (c .answered) z in
+        ap (λ (n : ℕ). take n (lines-of lent′)) (r .count)
+        ∙ ap (λ (o : List ℕ). take (length ls) (lines-of o)) e
+        ∙ over-holds ls lent (r .fits)
+        ∙ sym (take-all (length ls) ls (omega arith))
+        ∙ ap (λ (n : ℕ). take n ls) (sym (r .count))
+    go false t =
+        let h : refusal-of a ≡ 0 → ⊥ = eqb-false (refusal-of a) 0 t in
+        ap (λ (n : ℕ). take n (lines-of lent′)) (none-counted a h) ∙ ap (λ (n : ℕ). take n (stored-report kinds ws text)) (sym (none-counted a h))
+
+-- what is printed for them
+pub called-output : {kinds ws text work lent work′ lent′ : List ℕ} {a : Answer} → Called kinds ws text work lent a work′ lent′ → output-lines a (lines-of lent′) text ≡ output-lines a (stored-report kinds ws text) text
+unfolding output-lines
+called-output {text = text} {a = a} c = ap (λ (ls : List Line). header a ∷ map (line (names-of text)) ls) (called-lines c)
+
+-- their status
+pub called-status : {kinds ws text work lent work′ lent′ : List ℕ} {a : Answer} → Called kinds ws text work lent a work′ lent′ → status-of a (lines-of lent′) ≡ status-of a (stored-report kinds ws text)
+unfolding status-of
+called-status {a = a} c = ap (λ (ls : List Line). if eqb (refusal-of a) 0 then (if any-error ls then 1 else 0) else 2) (called-lines c)
+
+-- a refusal prints its header
+refused-output : (a : Answer) (ls : List Line) (text : List ℕ) → (refusal-of a ≡ 0 → ⊥) → output-lines a ls text ≡ header a ∷ []
+unfolding output-lines
+refused-output a ls text h = ap (λ (n : ℕ). header a ∷ map (line (names-of text)) (take n ls)) (none-counted a h)
+
+-- alone
+refused-printed : (a : Answer) (ls : List Line) (text : List ℕ) → (refusal-of a ≡ 0 → ⊥) → printed a ls text ≡ header a
+unfolding printed joined
+refused-printed a ls text h = ap joined (refused-output a ls text h) ∙ append-nil (header a)
+
+-- its status
+refused-status : (a : Answer) (ls : List Line) → (refusal-of a ≡ 0 → ⊥) → status-of a ls ≡ 2
+unfolding status-of
+refused-status a ls h = simp (ne-eqb (refusal-of a) 0 h)
+
+-- it fits
+refused-whole : (a : Answer) (ls : List Line) (text : List ℕ) {o o′ : List ℕ} {r : ℕ} → (refusal-of a ≡ 0 → ⊥) → 175161 ≤ length o → Filled (output-lines a ls text) o 0 r o′ → Rendered (printed a ls text) o r o′
+refused-whole a ls text {o} h b f = output-whole a ls text f (omega (arith, header-short a, ap length (refused-printed a ls text h)))
+
+-- the whole output fits
+called-whole : (kinds ws text : List ℕ) (work : ℕ) (a : Answer) {o o′ : List ℕ} {r : ℕ} → a ≡ answer kinds ws text work 1024 → 175161 ≤ length o → Filled (output-lines a (stored-report kinds ws text) text) o 0 r o′ → Rendered (printed a (stored-report kinds ws text) text) o r o′
+called-whole kinds ws text work a {o} {o′} {r} e b f = go (eqb (refusal-of a) 0) refl
+  where
+    go : (t : Bool) → eqb (refusal-of a) 0 ≡ t → Rendered (printed a (stored-report kinds ws text) text) o r o′
+    go true t =
+        let s = is-reported kinds ws text work 1024 a e (eqb-true (refusal-of a) 0 t) in
+        output-always a (stored-report kinds ws text) text (names-short text (s .named)) (s .fits) b f
+    go false t = refused-whole a (stored-report kinds ws text) text (eqb-false (refusal-of a) 0 t) b f
+
+-- the words of what was parsed, none where nothing was
+words-of : Option Model → List ℕ
+words-of none = []
+words-of (some m) = m .words
+
+-- nothing is no model
+not-none : {m : Model} → _≡_ {A = Option Model} none (some m) → ⊥
+not-none e = let z : _≡_ {A = ℕ} 0 1 = cc in omega arith
+
+-- the call on the parts of a file is the answer to it
+pub answered-parts : (file lent₀ ws work lent work′ lent′ kinds text : List ℕ) (n t : ℕ) (d : File) (a : Answer) → Decoded file lent₀ d ws → d ≡ Parts n t → kinds ≡ kinds-of (parse file) → text ≡ text-of (parse file)
+    → Called kinds (take n ws) text work lent a work′ lent′ → Answered file work lent a work′ lent′
+unfolding kinds-of text-of words-of
+answered-parts file lent₀ ws work lent work′ lent′ kinds text n t d a x y ks ts c =
+    let p = decoded-parts file lent₀ ws n t d x y in
+    record {
+      called = λ m e.
+          let k : kinds ≡ m .kinds = ks ∙ ap kinds-of e in
+          let w : take n ws ≡ m .words = ap words-of (sym p ∙ e) in
+          let u : text ≡ m .text = ts ∙ ap text-of e in
+          rw (sym k, sym w, sym u) c;
+      wrong = λ e. absurd (not-none (sym e ∙ p));
+    }
+
+-- a wrong file is refusal 1
+pub answered-wrong : (file lent₀ ws work lent : List ℕ) (d : File) → 4096 ≤ length lent₀ → Decoded file lent₀ d ws → d ≡ Wrong → Answered file work lent Sizes work lent
+answered-wrong file lent₀ ws work lent d h x y =
+    let p = decoded-wrong file (length lent₀) d h (x .answer) y in
+    record { called = λ m e. absurd (not-none (sym p ∙ e)); wrong = λ e. (refl, refl, refl) }
+
+-- the response to a file, where the program lends its work words and lines
+pub responded : (file o o′ work lent work′ lent′ text : List ℕ) (a : Answer) (r : Response) → length work ≡ 4096 → length lent ≡ 6144 → Answered file work lent a work′ lent′ → text ≡ text-of (parse file) → Filled (output-lines a (lines-of lent′) text) o 0 (r .size) o′ → r .status ≡ status-of a (lines-of lent′) → Responded file o r o′
+unfolding lines-to status-to text-of output-of
+responded file o o′ work lent work′ lent′ text a r four six c t f s = go (parse file) refl
+  where
+    go : (p : Option Model) → parse file ≡ p → Responded file o r o′
+    go none e =
+        let z : a ≡ Sizes = c .wrong e .0 in
+        let h : refusal-of a ≡ 0 → ⊥ = λ y. let q : _≡_ {A = ℕ} 1 0 = ap refusal-of (sym z) ∙ y in omega arith in
+        record {
+          filled = rw e (subst (λ bs. Filled bs o 0 (r .size) o′) (refused-output a (lines-of lent′) text h ∙ ap (λ (x : Answer). header x ∷ []) z) f);
+          whole = λ b. rw e (subst (λ bs. Rendered bs o (r .size) o′) (refused-printed a (lines-of lent′) text h ∙ ap header z) (refused-whole a (lines-of lent′) text h b f));
+          status = s ∙ refused-status a (lines-of lent′) h ∙ sym (ap status-to e);
+        }
+    go (some m) e =
+        let k = c .called m e in
+        let ls : List Line = stored-report (m .kinds) (m .words) (m .text) in
+        let n : text ≡ m .text = t ∙ ap text-of e in
+        let d : room lent ≡ 1024 = omega arith in
+        let w : a ≡ answer (m .kinds) (m .words) (m .text) 4096 1024 = k .answered ∙ ap (λ (x : ℕ). answer (m .kinds) (m .words) (m .text) x (room lent)) four ∙ ap (λ (x : ℕ). answer (m .kinds) (m .words) (m .text) 4096 x) d in
+        let g : Filled (output-lines a ls (m .text)) o 0 (r .size) o′ = subst (λ bs. Filled bs o 0 (r .size) o′) (ap (λ (x : List ℕ). output-lines a (lines-of lent′) x) n ∙ called-output k) f in
+        record {
+          filled = rw e (subst (λ x. Filled (output-lines x ls (m .text)) o 0 (r .size) o′) w g);
+          whole = λ b. rw e (subst (λ x. Rendered (printed x ls (m .text)) o (r .size) o′) w (called-whole (m .kinds) (m .words) (m .text) 4096 a w b g));
+          status = s ∙ called-status k ∙ ap (λ (x : Answer). status-of x ls) w ∙ sym (ap status-to e);
+        }
