@@ -1,13 +1,14 @@
 -- From the check of the input and the judging of accepted input to the whole call.
 -- Assumes nothing.
-use Prim.Native.Nat.{ℕ, _<_, min}
+use Prim.Native.Nat.{ℕ, _<_, _≤_, min}
 use mathlib.Core.Path.{_≡_, refl, sym, ap, subst, _∙_}
 use mathlib.Core.Bool.{Bool, true, false, false≢true}
 use mathlib.Core.List.{List}
 use mathlib.Core.Option.{Option, none, some}
-use lib.Dec.{leb}
+use lib.Dec.{leb, ltb}
 use lib.ListN.{length, getD, replicate}
-use borrow.Author.Tests.{ltb-true}
+use native.Mathlib.Omega.{arith}
+use borrow.Author.Tests.{ltb-true, ltb-false}
 use Rattle.lustre.specs.Name.{if_then_else_, mem}
 use Rattle.lustre.specs.Names.{bad-name, names-of}
 use Rattle.lustre.specs.Records.{word-classes, class-in, word-class, in-class, bad-record}
@@ -78,6 +79,15 @@ count-alike none none none (some at) e f m = refl
 count-alike none none none none (some at) f m = refl
 count-alike none none none none none (some at) m = refl
 
+-- accepted input has no short work memory
+unshort : (a b c d e f : Option ℕ) (m n : ℕ)
+    → refuse a (λ at. Answers.Sizes) (refuse b Answers.ShortWork (refuse c Answers.BadName (refuse d Answers.BadRecord (refuse e Answers.NoProject (refuse f Answers.TooDeep (Answers.Accepted m)))))) ≡ Answers.Accepted n
+    → b ≡ none
+unfolding refuse
+unshort a none c d e f m n q = refl
+unshort none (some at) c d e f m n q = cc
+unshort (some i) (some at) c d e f m n q = cc
+
 module _ (ks ws text : List ℕ) (work : ℕ) where
   -- the answer is the input's refusal, or else a report of its project
   answers : (room : ℕ) → answer ks ws text work room ≡ or-rest (refusal (judged ks ws text work)) (reported room (project-of ks ws text))
@@ -113,6 +123,19 @@ module _ (ks ws text : List ℕ) (work : ℕ) where
       let a = accepts ks ws text work n e in
       let r : in-class (length (names-of text)) (word-class 4) (getD ws at 0) ≡ true = subst (λ (j : ℕ). in-class (length (names-of text)) (word-class j) (getD ws at 0) ≡ true) k (a .ranged at l) in
       subst (λ (m : ℕ). getD ws at 0 < m) (count-is n e) (ltb-true (getD ws at 0) (length (names-of text)) r)
+
+  -- accepted input comes with enough work memory
+  pub work-accepted : (n : ℕ) → judged ks ws text work ≡ Answers.Accepted n → 4096 ≤ work
+  unfolding judged lowest short-work
+  work-accepted n e = go (ltb work 4096) refl
+    where
+      go : (t : Bool) → ltb work 4096 ≡ t → 4096 ≤ work
+      go true h =
+          let s : short-work work ≡ none =
+          unshort (bad-sizes ks ws text) (short-work work) (bad-name text) (bad-record (length (names-of text)) 0 ks ws) (no-project (spelled ks ws text)) (too-deep-at (spelled ks ws text)) (length (names-of text)) n e in
+          let q : _≡_ {A = Option ℕ} (some work) none = sym (simp h) ∙ s in
+          absurd (let z : _≡_ {A = ℕ} 0 1 = cc in omega arith)
+      go false h = ltb-false work 4096 h
 
 -- after a report and after refusal 7 the lines are written
 pub reported-writes : (room : ℕ) (P : Project) → writes (reported room P) ≡ true

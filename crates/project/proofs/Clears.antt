@@ -2,7 +2,7 @@
 -- Assumes nothing.
 use Prim.Native.Nat.{ℕ, _+_, _≤_, _<_}
 use native.Mathlib.Omega.{arith}
-use mathlib.Core.Path.{_≡_, refl, sym, _∙_, subst}
+use mathlib.Core.Path.{_≡_, refl, sym, ap, _∙_, subst}
 use mathlib.Core.Logic.{⊎-elim}
 use mathlib.Core.List.{List}
 use lib.ListN.{length, getD, set, replicate, length-set, length-replicate, getD-replicate}
@@ -38,3 +38,7 @@ clearing-done {l} {l′} h c =
     let none : List ℕ = replicate (length l) 0 in
     let e : length none ≡ length l = length-replicate {A = ℕ} (length l) 0 in
     ext-getD 0 l′ none (c .long ∙ sym e) (λ j k. c .zeros j (omega arith) ∙ sym (getD-replicate {A = ℕ} (length l) j 0 0 (omega (arith, c .long))))
+
+-- as many zero words by another name
+pub zeros-same : {w : List ℕ} {m n : ℕ} → w ≡ replicate m 0 → m ≡ n → w ≡ replicate n 0
+zeros-same e l = e ∙ ap (λ (k : ℕ). replicate k 0) l

@@ -3,15 +3,16 @@
 use Prim.Native.Nat.{ℕ, suc, _+_, _*_, _/_, _%_, _<_, _≤_}
 use native.Mathlib.Omega.{arith}
 use native.Mathlib.Numerals.{add-one}
-use mathlib.Core.Path.{_≡_, ap}
+use mathlib.Core.Path.{_≡_, ap, _∙_}
 use mathlib.Core.List.{List, []}
-use lib.ListN.{length, getD, replicate, length-replicate, getD-replicate}
+use lib.ListN.{length, getD, take, replicate, length-replicate, getD-replicate}
+use lib.Seq.{length-take-le, getD-take}
 use Rattle.lustre.specs.Project.{skeleton, all-nodes}
 use Rattle.lustre.specs.Line.{Line}
 use Rattle.lustre.specs.Node.{looks as looks-of}
 use Rattle.lustre.specs.Resolve.{context}
 use Rattle.lustre.specs.Report.{node-lines, nodes-lines, looks-all}
-use Rattle.loops.specs.Rows.{has}
+use Rattle.loops.specs.Rows.{bit, has}
 use Rattle.loops.proofs.Bits.{bit-zero}
 use Rattle.scope.specs.Model.{Model}
 use Rattle.scope.specs.Tables.{Declared}
@@ -22,13 +23,18 @@ use Rattle.tables.proofs.Heads.{meets, nodes-met, past, node-here, no-more}
 use Rattle.nodes.specs.Nodes.{Blank, Node-given, Node-checked}
 use Rattle.nodes.specs.declared.Judged.{Judged}
 
--- a graph of zero words has no edge
-blank-zero : Blank (replicate 4096 0)
+-- the first 4,096 of zero words are a graph with no edge
+pub blank-front : {w : List ℕ} {n : ℕ} → w ≡ replicate n 0 → 4096 ≤ n → Blank (take 4096 w)
 unfolding has
-blank-zero = record {
-  room = length-replicate {A = ℕ} 4096 0;
-  empty = λ a b l r. rw (getD-replicate {A = ℕ} 4096 (8 * a + b / 64) 0 0 (omega arith)) (bit-zero (b % 64));
-}
+blank-front {w} {n} e l =
+    let long : length w ≡ n = ap length e ∙ length-replicate {A = ℕ} n 0 in
+    record {
+      room = length-take-le 4096 w (omega arith);
+      empty = λ a b p q. (
+          let i = 8 * a + b / 64 in
+          let zero : getD (take 4096 w) i 0 ≡ 0 = getD-take 4096 w i 0 (omega arith) ∙ ap (λ (v : List ℕ). getD v i 0) e ∙ getD-replicate {A = ℕ} n i 0 0 (omega arith) in
+          ap (λ (v : ℕ). bit v (b % 64)) zero ∙ bit-zero (b % 64));
+    }
 
 -- what the check of the node at a record does
 abbrev pub Node-passed : (ks ws sc : List ℕ) (at number first : ℕ) (o : List ℕ) (m : ℕ) (r : Judged) (sc′ graph′ o′ : List ℕ) → Type 0
@@ -46,12 +52,12 @@ pub record Judging {ks ws : List ℕ} (g : Model ks ws) (first : ℕ) (o₀ : Li
 
 module _ {ks ws : List ℕ} (g : Model ks ws) {first : ℕ} {o₀ : List ℕ} {n : ℕ} where
   -- no node yet
-  pub judging-start : {sc : List ℕ} → Declared g [] sc → Judging g first o₀ n 1 0 0 n sc (replicate 4096 0) o₀
-  judging-start T = record {
+  pub judging-start : {sc graph : List ℕ} → Declared g [] sc → Blank graph → Judging g first o₀ n 1 0 0 n sc graph o₀
+  judging-start T b = record {
     hs = heads (g .P);
     to-come = meets g;
     declared = T;
-    blank = blank-zero;
+    blank = b;
     looked = let q = ap looks-all (nodes-met (g .P)) in omega (arith, q);
     rest = λ r. rw (nodes-met (g .P)) at r;
   }

@@ -24,6 +24,7 @@ ghost use Rattle.lustre.specs.Answer.{reported};
 ghost use Rattle.scope.specs.Model.{Model};
 ghost use Rattle.scope.specs.Tables.{Declared};
 ghost use Rattle.scope.specs.Writes.{Reports};
+ghost use Rattle.nodes.specs.Nodes.{Blank};
 ghost use Rattle.tables.specs.Entered.{Aliases-below};
 ghost use Rattle.project.specs.Call.{Called, Model-declared, Judged-as};
 
@@ -74,14 +75,14 @@ fn check_nodes(
     kinds: &[u8],
     words: &[u64],
     scope: &mut [u64],
+    graph: &mut [u64],
     first: u64,
     out: &mut [u64],
     n: u64,
 ) -> Judged
-    requires { ⌜ Model-declared (now kinds) (now words) (now scope) ⌝ }
+    requires { ⌜ Model-declared (now kinds) (now words) (now scope) × Blank (now graph) ⌝ }
     ensures { λ r. ⌜ ((g : Model-declared (now (kinds .entry)) (now (words .entry)) (now (scope .entry))) → Reports (g .model .number) first (nodes-lines (context (skeleton (g .model .P))) 0 (all-nodes (g .model .P))) (now (out .entry)) n (r .n) (now (out .exit)) × (r .looks ≡ looks-all (all-nodes (g .model .P)))) ⌝ }
 {
-    let mut graph = [0u64; 4096];
     let mut path = [0u64; 513];
     let mut number: u64 = 0;
     let mut looks: u64 = 0;
@@ -101,7 +102,7 @@ fn check_nodes(
             kinds,
             words,
             scope,
-            &mut graph,
+            graph,
             &mut path,
             at,
             number,
@@ -117,9 +118,16 @@ fn check_nodes(
 }
 
 // The lines of the project's report from number `first` on that the buffer has places for, the number of all lines, and the number of edges
-// followed. `names` is the number of names.
-pub fn report(kinds: &[u8], words: &[u64], names: u64, first: u64, out: &mut [u64]) -> Judged
-    requires { ⌜ ((g : Model (now kinds) (now words)) × (g .names ≡ names)) × Aliases-below (now kinds) (now words) names ⌝ }
+// followed. `names` is the number of names, and `graph` 4,096 zero words that are lent to one node after another.
+pub fn report(
+    kinds: &[u8],
+    words: &[u64],
+    names: u64,
+    first: u64,
+    graph: &mut [u64],
+    out: &mut [u64],
+) -> Judged
+    requires { ⌜ ((g : Model (now kinds) (now words)) × (g .names ≡ names)) × Aliases-below (now kinds) (now words) names × Blank (now graph) ⌝ }
     ensures { λ r. ⌜ ((g : Model (now (kinds .entry)) (now (words .entry))) → g .names ≡ names → Reports (g .number) first (report-of (g .P)) (now (out .entry)) 0 (r .n) (now (out .exit)) × (r .looks ≡ followed (g .P))) ⌝ }
 {
     let mut scope = [0u64; 3072];
@@ -128,12 +136,12 @@ pub fn report(kinds: &[u8], words: &[u64], names: u64, first: u64, out: &mut [u6
     let b = check_aliases(kinds, words, &scope, &numbers, names, first, out, a);
     let c = declare_nodes(kinds, words, &mut scope, first, out, b);
     let d = check_constants(kinds, words, &scope, first, out, c);
-    check_nodes(kinds, words, &mut scope, first, out, d)
+    check_nodes(kinds, words, &mut scope, graph, first, out, d)
 }
 
 // Makes every word zero.
 fn clear(work: &mut [u64])
-    ensures { λ _. ⌜ now (work .exit) ≡ replicate (length (now (work .entry))) 0 ⌝ }
+    ensures { λ _. ⌜ ((n : ℕ) → length (now (work .entry)) ≡ n → now (work .exit) ≡ replicate n 0) ⌝ }
 {
     let mut i = 0;
     while i < work.len() {
@@ -142,12 +150,13 @@ fn clear(work: &mut [u64])
     }
 }
 
-// The report of accepted input, or refusal 7; the work memory is zero after either.
+// The report of accepted input, or refusal 7. The first 4,096 words of the work memory are the graph; all of it is zero after either answer.
 fn judge(kinds: &[u8], words: &[u64], names: u64, work: &mut [u64], lines: &mut [u64]) -> Answer
-    requires { ⌜ ((g : Model (now kinds) (now words)) × (g .names ≡ names)) × Aliases-below (now kinds) (now words) names ⌝ }
+    requires { ⌜ ((g : Model (now kinds) (now words)) × (g .names ≡ names)) × Aliases-below (now kinds) (now words) names × (4096 ≤ length (now work)) ⌝ }
     ensures { λ r. ⌜ (now (work .exit) ≡ replicate (length (now (work .entry))) 0) × ((g : Model (now (kinds .entry)) (now (words .entry))) → g .names ≡ names → Judged-as g (now (lines .entry)) r (now (lines .exit))) ⌝ }
 {
-    let r = report(kinds, words, names, 0, lines);
+    clear(work);
+    let r = report(kinds, words, names, 0, &mut work[..4096], lines);
     clear(work);
     let room = lines.len() as u64 / 6;
     if r.n <= room {

@@ -2,7 +2,7 @@
 -- Assumes nothing.
 use mathlib.Core.Path.{sym, ap, _∙_}
 use borrow.Author.Needs.{needs}
-use Rattle.project.proofs.Answers.{refusal, model-accepted, aliases-accepted, called-refused, called-accepted}
+use Rattle.project.proofs.Answers.{refusal, model-accepted, aliases-accepted, work-accepted, called-refused, called-accepted}
 use Rattle.project.proofs.check.Statement.{statement}
 use Rattle.project.proofs.check.Tie as tie
 
@@ -15,7 +15,7 @@ enum-known-names c = search needs
 judge-requires : tie.Need-judge-requires
 judge-requires c κs =
     let e = sym (c .before .before .before .before .before .check-input .ensures) ∙ c .before .before .before .names .given .1 in
-    (model-accepted _ _ _ _ _ e, aliases-accepted _ _ _ _ _ e)
+    (model-accepted _ _ _ _ _ e, aliases-accepted _ _ _ _ _ e, work-accepted _ _ _ _ _ e)
 
 enum-told : tie.Need-enum-told
 enum-told c = search needs

@@ -10,19 +10,19 @@ use Rattle.project.proofs.check_nodes.Statement.{statement}
 use Rattle.project.proofs.check_nodes.Tie as tie
 
 abbrev Inv-loop : tie.InvT-loop
-Inv-loop kinds words scope₀ first out₀ n graph₀ path₀ number₀ looks₀ m₀ i₀ scope out graph path number looks m i = (number < i) × (looks ≤ 262144 * i) × (length scope ≡ length scope₀) × (length out ≡ length out₀) × (length graph ≡ 4096) × (length path ≡ 513) × ((g : Model-declared kinds words scope₀) → Judging (g .model) first out₀ n i number looks m scope graph out)
+Inv-loop kinds words scope₀ graph₀ first out₀ n path₀ number₀ looks₀ m₀ i₀ scope graph out path number looks m i = (number < i) × (looks ≤ 262144 * i) × (length scope ≡ length scope₀) × (length out ≡ length out₀) × (length graph ≡ 4096) × (length path ≡ 513) × ((g : Model-declared kinds words scope₀) → Judging (g .model) first out₀ n i number looks m scope graph out)
 
 abbrev μ-loop : tie.MeasureT-loop
-μ-loop kinds words scope₀ first out₀ n graph₀ path₀ number₀ looks₀ m₀ i₀ scope out graph path number looks m i = length kinds - i
+μ-loop kinds words scope₀ graph₀ first out₀ n path₀ number₀ looks₀ m₀ i₀ scope graph out path number looks m i = length kinds - i
 
 loop-holds : tie.Need-loop-holds Inv-loop μ-loop
-loop-holds c = (omega arith, omega arith, refl, refl, length-replicate {A = ℕ} 4096 0, length-replicate {A = ℕ} 513 0, λ g. judging-start (g .model) (g .declared))
+loop-holds c = (omega arith, omega arith, refl, refl, c .before .before .before .before .before .pre .1 .room, length-replicate {A = ℕ} 513 0, λ g. judging-start (g .model) (g .declared) (c .before .before .before .before .before .pre .1))
 
 shared-slice-read-k : tie.Need-shared-slice-read-k Inv-loop μ-loop
 shared-slice-read-k c = omega (arith, c .before .loop-test .taken)
 
 add-i : tie.Need-add-i Inv-loop μ-loop
-add-i c = omega (arith, c .before .loop-test .taken, c .before .before .before .before .before .before .before .pre .model .few)
+add-i c = omega (arith, c .before .loop-test .taken, c .before .before .before .before .before .before .before .before .pre .0 .model .few)
 
 loop-less : tie.Need-loop-less Inv-loop μ-loop
 loop-less c = omega (arith, c .before .before .loop-test .taken)
@@ -37,47 +37,47 @@ loop-again-2 : tie.Need-loop-again-2 Inv-loop μ-loop
 loop-again-2 c = (omega arith, omega (arith, c .before .before .before .before .loop .inv .1), c .before .before .before .before .loop .inv .2, c .before .before .before .before .loop .inv .3, c .before .before .before .before .loop .inv .4, c .before .before .before .before .loop .inv .5, λ g. judging-past (g .model) (c .before .before .before .before .loop .inv .6 g) (c .before .before .before .loop-test .taken) (λ a b. omega (arith, c .if2 .taken)))
 
 slice-aggregate-check-node : tie.Need-slice-aggregate-check-node Inv-loop μ-loop
-slice-aggregate-check-node c = omega (arith, c .before .before .before .before .before .before .loop .inv .4)
-
-slice-aggregate-check-node-2 : tie.Need-slice-aggregate-check-node-2 Inv-loop μ-loop
-slice-aggregate-check-node-2 c = omega (arith, c .before .before .before .before .before .before .before .loop .inv .5)
+slice-aggregate-check-node c = omega (arith, c .before .before .before .before .before .before .before .loop .inv .5)
 
 check-node-requires : tie.Need-check-node-requires Inv-loop μ-loop
 check-node-requires c κs =
-    let g = c .before .before .before .before .before .before .before .before .before .before .before .before .before .pre in
+    let g = c .before .before .before .before .before .before .before .before .before .before .before .before .before .before .pre .0 in
     let J = c .before .before .before .before .before .before .before .before .loop .inv .6 g in
     (judging-given (g .model) J (c .before .before .before .before .before .before .before .loop-test .taken) (omega (arith, c .before .before .before .before .before .if1 .left)) (omega (arith, c .before .before .before .before .if2 .left)), J .blank, omega (arith, c .before .before .before .before .before .before .before .before .loop .inv .5))
 
 add-looks : tie.Need-add-looks Inv-loop μ-loop
 add-looks c =
-    let g = c .before .before .before .before .before .before .before .before .before .before .before .before .before .before .before .before .before .before .before .before .before .pre in
-    let G = judging-given (g .model) (c .before .before .before .before .before .before .before .before .before .before .before .before .before .before .before .before .loop .inv .6 g) (c .before .before .before .before .before .before .before .before .before .before .before .before .before .before .before .loop-test .taken) (omega (arith, c .before .before .before .before .before .before .before .before .before .before .before .before .before .if1 .left)) (omega (arith, c .before .before .before .before .before .before .before .before .before .before .before .before .if2 .left)) in
-    omega (arith, c .before .before .before .before .before .before .before .before .before .before .before .before .before .before .before .before .loop .inv .1, c .before .before .before .before .before .before .before .before .before .before .before .before .before .before .before .loop-test .taken, g .model .few, c .before .before .before .before .before .before .before .check-node .ensures G .few)
+    let g = c .before .before .before .before .before .before .before .before .before .before .before .before .before .before .before .before .before .before .before .before .before .before .before .pre .0 in
+    let G = judging-given (g .model) (c .before .before .before .before .before .before .before .before .before .before .before .before .before .before .before .before .before .loop .inv .6 g) (c .before .before .before .before .before .before .before .before .before .before .before .before .before .before .before .before .loop-test .taken) (omega (arith, c .before .before .before .before .before .before .before .before .before .before .before .before .before .before .if1 .left)) (omega (arith, c .before .before .before .before .before .before .before .before .before .before .before .before .before .if2 .left)) in
+    omega (arith, c .before .before .before .before .before .before .before .before .before .before .before .before .before .before .before .before .before .loop .inv .1, c .before .before .before .before .before .before .before .before .before .before .before .before .before .before .before .before .loop-test .taken, g .model .few, c .before .before .before .before .before .before .before .before .check-node .ensures G .few)
 
 add-number : tie.Need-add-number Inv-loop μ-loop
-add-number c = omega (arith, c .before .before .before .before .before .before .before .before .before .before .before .before .before .before .before .loop-test .taken, c .before .before .before .before .before .before .before .before .before .before .before .before .before .before .before .before .before .before .before .before .before .pre .model .few)
+add-number c = omega (arith, c .before .before .before .before .before .before .before .before .before .before .before .before .before .before .before .before .loop-test .taken, c .before .before .before .before .before .before .before .before .before .before .before .before .before .before .before .before .before .before .before .before .before .before .before .pre .0 .model .few)
 
 loop-less-3 : tie.Need-loop-less-3 Inv-loop μ-loop
-loop-less-3 c = omega (arith, c .before .before .before .before .before .before .before .before .before .before .before .before .before .before .before .loop-test .taken)
+loop-less-3 c = omega (arith, c .before .before .before .before .before .before .before .before .before .before .before .before .before .before .before .before .loop-test .taken)
 
 loop-again-3 : tie.Need-loop-again-3 Inv-loop μ-loop
 loop-again-3 c =
-    let g = c .before .before .before .before .before .before .before .before .before .before .before .before .before .before .before .before .before .before .before .before .before .pre in
-    let G = judging-given (g .model) (c .before .before .before .before .before .before .before .before .before .before .before .before .before .before .before .before .loop .inv .6 g) (c .before .before .before .before .before .before .before .before .before .before .before .before .before .before .before .loop-test .taken) (omega (arith, c .before .before .before .before .before .before .before .before .before .before .before .before .before .if1 .left)) (omega (arith, c .before .before .before .before .before .before .before .before .before .before .before .before .if2 .left)) in (
+    let g = c .before .before .before .before .before .before .before .before .before .before .before .before .before .before .before .before .before .before .before .before .before .before .before .pre .0 in
+    let G = judging-given (g .model) (c .before .before .before .before .before .before .before .before .before .before .before .before .before .before .before .before .before .loop .inv .6 g) (c .before .before .before .before .before .before .before .before .before .before .before .before .before .before .before .before .loop-test .taken) (omega (arith, c .before .before .before .before .before .before .before .before .before .before .before .before .before .before .if1 .left)) (omega (arith, c .before .before .before .before .before .before .before .before .before .before .before .before .before .if2 .left)) in (
       omega arith,
-      omega (arith, c .before .before .before .before .before .before .before .before .before .before .before .before .before .before .before .before .loop .inv .1, c .before .before .before .before .before .before .before .check-node .ensures G .few),
-      omega (arith, c .before .before .before .before .before .before .before .before .before .before .before .before .before .before .before .before .loop .inv .2),
-      omega (arith, c .before .before .before .before .before .before .before .before .before .before .before .before .before .before .before .before .loop .inv .3),
-      omega (arith, c .before .before .before .before .before .before .before .before .before .before .before .before .before .before .before .before .loop .inv .4),
-      omega (arith, c .before .before .before .before .before .before .before .before .before .before .before .before .before .before .before .before .loop .inv .5),
-      λ g. judging-node (g .model) (c .before .before .before .before .before .before .before .before .before .before .before .before .before .before .before .before .loop .inv .6 g) (c .before .before .before .before .before .before .before .before .before .before .before .before .before .before .before .loop-test .taken) (omega (arith, c .before .before .before .before .before .before .before .before .before .before .before .before .before .if1 .left)) (omega (arith, c .before .before .before .before .before .before .before .before .before .before .before .before .if2 .left)) (c .before .before .before .before .before .before .before .check-node .ensures),
+      omega (arith, c .before .before .before .before .before .before .before .before .before .before .before .before .before .before .before .before .before .loop .inv .1, c .before .before .before .before .before .before .before .before .check-node .ensures G .few),
+      omega (arith, c .before .before .before .before .before .before .before .before .before .before .before .before .before .before .before .before .before .loop .inv .2),
+      omega (arith, c .before .before .before .before .before .before .before .before .before .before .before .before .before .before .before .before .before .loop .inv .3),
+      omega (arith, c .before .before .before .before .before .before .before .before .before .before .before .before .before .before .before .before .before .loop .inv .4),
+      omega (arith, c .before .before .before .before .before .before .before .before .before .before .before .before .before .before .before .before .before .loop .inv .5),
+      λ g. judging-node (g .model) (c .before .before .before .before .before .before .before .before .before .before .before .before .before .before .before .before .before .loop .inv .6 g) (c .before .before .before .before .before .before .before .before .before .before .before .before .before .before .before .before .loop-test .taken) (omega (arith, c .before .before .before .before .before .before .before .before .before .before .before .before .before .before .if1 .left)) (omega (arith, c .before .before .before .before .before .before .before .before .before .before .before .before .before .if2 .left)) (c .before .before .before .before .before .before .before .before .check-node .ensures),
     )
 
 same-length : tie.Need-same-length Inv-loop μ-loop
 same-length c = c .before .loop .inv .2
 
 same-length-2 : tie.Need-same-length-2 Inv-loop μ-loop
-same-length-2 c = c .before .loop .inv .3
+same-length-2 c = omega (arith, c .before .loop .inv .4, c .before .before .before .before .before .before .before .pre .1 .room)
+
+same-length-3 : tie.Need-same-length-3 Inv-loop μ-loop
+same-length-3 c = c .before .loop .inv .3
 
 returns : tie.Need-returns Inv-loop μ-loop
 returns c = λ g. judging-done (g .model) (c .before .loop .inv .6 g) (omega (arith, c .loop-test .left))
@@ -96,7 +96,6 @@ check-nodes-spec =
     loop-less-2
     loop-again-2
     slice-aggregate-check-node
-    slice-aggregate-check-node-2
     check-node-requires
     add-looks
     add-number
@@ -104,4 +103,5 @@ check-nodes-spec =
     loop-again-3
     same-length
     same-length-2
+    same-length-3
     returns)

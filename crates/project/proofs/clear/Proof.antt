@@ -2,7 +2,7 @@
 use Prim.Native.Nat.{_-_}
 use native.Mathlib.Omega.{arith}
 use lib.ListN.{length}
-use Rattle.project.proofs.Clears.{Clearing, clearing-start, clearing-more, clearing-done}
+use Rattle.project.proofs.Clears.{Clearing, clearing-start, clearing-more, clearing-done, zeros-same}
 use Rattle.project.proofs.clear.Statement.{statement}
 use Rattle.project.proofs.clear.Tie as tie
 
@@ -34,7 +34,7 @@ same-length : tie.Need-same-length Inv-loop μ-loop
 same-length c = c .before .loop .inv .long
 
 returns : tie.Need-returns Inv-loop μ-loop
-returns c = clearing-done (c .loop-test .left) (c .before .loop .inv)
+returns c = λ n l. zeros-same (clearing-done (c .loop-test .left) (c .before .loop .inv)) l
 
 pub clear-spec : {M : Type 1} → statement M
 clear-spec =
