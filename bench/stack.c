@@ -1,0 +1,73 @@
+/* stack FILE...: prints for each model the most stack that its check takes, in bytes: the call runs in a thread whose stack was filled with
+ * a pattern, and the bytes from the lowest one changed up to the caller's frame are counted. */
+#include <inttypes.h>
+#include <pthread.h>
+#include <stdio.h>
+#include <stdlib.h>
+#include <string.h>
+
+#include "wuroike.h"
+
+enum { SIZE = 16 << 20, ROOM = 1024, LONGEST = 8 + 9 * WUROIKE_RECORDS + WUROIKE_TEXT, PATTERN = 0xA5 };
+
+static uint8_t file[LONGEST + 1];
+static uint64_t words[WUROIKE_RECORDS];
+static uint64_t work[WUROIKE_WORK];
+static uint64_t lines[ROOM * WUROIKE_LINE];
+static size_t records, text_length;
+static uint64_t refusal, first, second;
+static uint8_t *top;
+
+/* The thread: the check of the model that was read. */
+static void *call(void *unused) {
+    (void)unused;
+    top = __builtin_frame_address(0);
+    refusal = wuroike_check(file + 8, records, words, records, file + 8 + 9 * records, text_length, work, WUROIKE_WORK, lines,
+                            sizeof lines / 8, &first, &second);
+    return NULL;
+}
+
+/* Reads a model; 0 if it can't. */
+static int read_model(const char *path) {
+    FILE *in = fopen(path, "rb");
+    if (in == NULL) {
+        return 0;
+    }
+    size_t length = fread(file, 1, sizeof file, in);
+    fclose(in);
+    uint32_t sizes[2];
+    memcpy(sizes, file, 8);
+    records = sizes[0];
+    text_length = sizes[1];
+    if (length < 8 || records > WUROIKE_RECORDS || text_length > WUROIKE_TEXT || length != 8 + 9 * records + text_length) {
+        return 0;
+    }
+    memcpy(words, file + 8 + records, 8 * records);
+    return 1;
+}
+
+int main(int count, char **paths) {
+    uint8_t *stack = aligned_alloc(4096, SIZE);
+    pthread_attr_t attributes;
+    if (stack == NULL || pthread_attr_init(&attributes) != 0 || pthread_attr_setstack(&attributes, stack, SIZE) != 0) {
+        return 3;
+    }
+    for (int i = 1; i < count; i++) {
+        if (!read_model(paths[i])) {
+            fprintf(stderr, "stack: %s is no model\n", paths[i]);
+            return 3;
+        }
+        memset(stack, PATTERN, SIZE);
+        pthread_t thread;
+        if (pthread_create(&thread, &attributes, call, NULL) != 0 || pthread_join(thread, NULL) != 0) {
+            return 3;
+        }
+        uint8_t *low = stack;
+        while (*low == PATTERN) {
+            low++;
+        }
+        const char *name = strrchr(paths[i], '/');
+        printf("%9td  %5zu records  answer %" PRIu64 " %" PRIu64 "  %s\n", top - low, records, refusal, first, name ? name + 1 : paths[i]);
+    }
+    return 0;
+}

@@ -1,0 +1,96 @@
+/* Wuroike: the check of a project of a Lustre dialect, as one call on lent memory.
+ *
+ * Link libexports.a (rt staticlib exports). It needs memcpy and memset and nothing else: no heap, no files, no static memory that is
+ * written, no locks. Calls on memory that does not overlap may run at once in several threads.
+ *
+ * The call reads the records and the text, writes the work memory, the lines and the two numbers, and nothing else. It is proved for all
+ * contents and all lengths that it stays within what is lent, ends, and answers as its contract says (crates/exports, crates/project).
+ * What a caller owes is what C can't say: each pointer goes to that many elements, the buffers that are written overlap no other, and there
+ * is stack (see below).
+ */
+#ifndef WUROIKE_H
+#define WUROIKE_H
+
+#include <stddef.h>
+#include <stdint.h>
+
+#ifdef __cplusplus
+extern "C" {
+#endif
+
+/* Limits of an accepted project. */
+enum {
+    WUROIKE_RECORDS = 4096,     /* most records */
+    WUROIKE_TEXT = 16384,       /* most bytes of text */
+    WUROIKE_NAMES = 512,        /* most names */
+    WUROIKE_NAME = 64,          /* most bytes of a name */
+    WUROIKE_TYPE_LEVELS = 68,   /* most levels of a type */
+    WUROIKE_LEVELS = 60,        /* most levels of an expression */
+    WUROIKE_WORK = 4096,        /* least words of work memory */
+    WUROIKE_LINE = 6            /* words of a line */
+};
+
+/* The value of a field that has none. */
+#define WUROIKE_NONE UINT64_MAX
+
+/* A line of the report: six words. */
+typedef struct wuroike_line {
+    uint64_t code;     /* 1 to 150: E and four digits, and W0051, which alone is a warning; docs/RULES.md has each */
+    uint64_t place;    /* what it is about: one of wuroike_place */
+    uint64_t number;   /* which one, from 0 over the whole project; enums count among the types */
+    uint64_t equation; /* the equation from 0 within its node, or none */
+    uint64_t step;     /* the record's distance from the start of its right-hand side or constant value, for code 60 the place in the
+                          path, or none */
+    uint64_t name;     /* the number of the declared, assigned, sought, called or iterated name, or none */
+} wuroike_line;
+
+/* What a line is about. */
+enum wuroike_place {
+    WUROIKE_PACKAGE = 0,
+    WUROIKE_ENUM = 1,
+    WUROIKE_TYPE = 2,
+    WUROIKE_CONSTANT = 3,
+    WUROIKE_NODE = 4
+};
+
+/* What the call returns: a report, or the lowest refusal that applies. */
+enum wuroike_answer {
+    WUROIKE_REPORT = 0,     /* first: the number of lines; second: the number of edges that the search for loops followed */
+    WUROIKE_SIZES = 1,      /* kinds and words differ in number, or too many records or bytes of text. first: 0 */
+    WUROIKE_SHORT_WORK = 2, /* fewer than 4,096 words of work memory. first: how many */
+    WUROIKE_BAD_NAME = 3,   /* a name is not 1 to 64 bytes closed by a zero byte, is not above the one before it in byte order, is a
+                               reserved one, or is the 513th. first: its number */
+    WUROIKE_BAD_RECORD = 4, /* an unknown kind, or a word outside its kind's range. first: the record */
+    WUROIKE_NO_PROJECT = 5, /* the records are not one project. first: the first that can't stand there, or their number */
+    WUROIKE_TOO_DEEP = 6,   /* a type of more than 68 levels or an expression of more than 60. first: the first record too deep */
+    WUROIKE_MORE_LINES = 7  /* the report has more lines than were lent. first: how many it has, at most 2^64 - 1 */
+};
+
+/* Checks a project.
+ *
+ *   kinds, words   the records: their kinds, and a word each. Read.
+ *   text           the names in byte order, each closed by a zero byte; a name's number is its place. Read.
+ *   work           work memory. All of it is zero after answers 0 and 7, and unchanged after any other.
+ *   lines          memory for lines, six words each; words past the last whole line are not used. After answer 0 the first `first` lines
+ *                  are written, after answer 7 as many first lines as fit; nothing else is, and after any other answer nothing.
+ *   first, second  where the two numbers of the answer go; second is 0 after a refusal.
+ *
+ * Each length is a number of elements: of bytes for kinds and text, of 8-byte words for words, work and lines. A pointer must not be null
+ * and must be aligned for its elements, also where the length is 0.
+ *
+ * The lines may be declared as wuroike_line[n] and lent as &line[0].code with 6 * n words.
+ *
+ * Stack: proofs don't speak of it, so these are measured peaks of the call, in bytes (docs/PERFORMANCE.md). 60 levels of expression, the
+ * deepest accepted: 1,058,552 (a fold with a seed), 951,880 (a fold without), 632,088 (if), less for all else. 4,096 nested records, which
+ * are refused once all are read: 1,050,376. A path of 512 names: 142,208. A clean model: 98,872. Give a thread 1,200,000.
+ * Static memory: none is written.
+ */
+uint64_t wuroike_check(const uint8_t *kinds, size_t kinds_length, const uint64_t *words, size_t words_length, const uint8_t *text,
+                       size_t text_length, uint64_t *work, size_t work_length, uint64_t *lines, size_t lines_length, uint64_t *first,
+                       uint64_t *second);
+
+#ifdef __cplusplus
+}
+#endif
+
+#endif
