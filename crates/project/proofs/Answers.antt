@@ -105,7 +105,7 @@ module _ (ks ws text : List ℕ) (work : ℕ) where
   answer-refused r room e = answers room ∙ ap (λ (o : Option Answer). or-rest o (reported room (project-of ks ws text))) e
 
   -- accepted input is answered with its number of names
-  count-is : (n : ℕ) → judged ks ws text work ≡ Answers.Accepted n → length (names-of text) ≡ n
+  pub count-is : (n : ℕ) → judged ks ws text work ≡ Answers.Accepted n → length (names-of text) ≡ n
   unfolding judged lowest
   count-is n e =
       sym (count-alike (bad-sizes ks ws text) (short-work work) (bad-name text) (bad-record (length (names-of text)) 0 ks ws) (no-project (spelled ks ws text)) (too-deep-at (spelled ks ws text))

@@ -116,7 +116,7 @@ module _ (c : Check) (r : Reported c) where
   same-lines = ap (map (said (names-of (c .text)))) lines-are ∙ map-map (said (names-of (c .text))) (stored (names-of (c .text))) (report (project c)) ∙ sym (reported-lines (call c) given)
 
   -- they are the lines of the report, with names as texts
-  lines-spoken : lines-of c r ≡ map spoken (report (project c))
+  pub lines-spoken : lines-of c r ≡ map spoken (report (project c))
   unfolding spelled project-of
   lines-spoken =
       let h = passed (call c) given in

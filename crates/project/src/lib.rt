@@ -140,7 +140,7 @@ pub fn report(
 }
 
 // Makes every word zero.
-fn clear(work: &mut [u64])
+pub fn clear(work: &mut [u64])
     ensures { λ _. ⌜ ((n : ℕ) → length (now (work .entry)) ≡ n → now (work .exit) ≡ replicate n 0) ⌝ }
 {
     let mut i = 0;

@@ -1,0 +1,4 @@
+pub mod Again
+pub mod Local
+pub mod Turns
+pub mod Demands

@@ -1,0 +1,92 @@
+-- Demand 3, and demand 2's sentence on E0060, of the function `check_project`: what holds of all calls that it answers with a report. A name in
+-- a line counts as its text.
+-- Assumes nothing: these are definitions and statements, proved in proofs/.
+use Prim.Native.Nat.{ℕ}
+use mathlib.Core.Path.{_≡_}
+use mathlib.Core.List.{List, [], map, List·Memᴰ}
+use mathlib.Core.Option.{some}
+use lib.ListN.{getElem?, take}
+use Rattle.lustre.specs.Name.{Name}
+use Rattle.lustre.specs.Names.{names-of}
+use Rattle.lustre.specs.Records.{Rec}
+use Rattle.lustre.specs.Project.{Equation, Node, Function, Operator, Imported, Project, all-nodes}
+use Rattle.lustre.specs.Grammar.{flat-node, flat-project}
+use Rattle.lustre.specs.Walk.{rust-search}
+use Rattle.lustre.specs.Report.{followed}
+use Rattle.lustre.specs.Answer.{spelled, project-of}
+use Rattle.lustre.specs.declared.Line.{Line}
+use Rattle.lustre.specs.declared.Answer.{Answer}
+use Rattle.lustre.specs.declared.Answer.the-variants.{Report}
+use Rattle.demands.specs.Parts.{all, shown, node-part}
+use Rattle.demands.specs.Loops.{Closed, Cyclic}
+use Rattle.demands.specs.Demand3.{stray, Said, said, about, about-no-node}
+use Rattle.project.specs.Demands.{loop-lines, path-lines}
+use Rattle.checker.specs.Call.{Checked}
+
+-- a call of `check_project`: what it was lent, what it answered, what the work memory and the lines hold after it, and the contract
+pub record Check : Type 0 where
+  pub kinds : List ℕ
+  pub words : List ℕ
+  pub text : List ℕ
+  pub work : List ℕ
+  pub lines : List Line
+  pub answer : Answer
+  pub work-after : List ℕ
+  pub lines-after : List Line
+  pub checked : Checked kinds words text work lines answer work-after lines-after
+
+-- its answer is a report
+pub record Reported (c : Check) : Type 0 where
+  pub count : ℕ
+  pub edges : ℕ
+  pub is : c .answer ≡ Report count edges
+
+-- its records, where a name word counts as its name's text
+abbrev pub records : Check → List Rec
+records c = spelled (c .kinds) (c .words) (c .text)
+
+-- the project that they are
+abbrev pub project : Check → Project
+project c = project-of (c .kinds) (c .words) (c .text)
+
+-- the lines below the report's count after the call, where a name counts as its text
+unfoldable pub lines-of : (c : Check) → Reported c → List Said
+lines-of c r = map (said (names-of (c .text))) (take (r .count) (c .lines-after))
+
+-- What a report is about: the records are those of the project, node by node too, and the edges are those that the search follows.
+pub record Report-of (c : Check) (r : Reported c) : Type 0 where
+  pub written : records c ≡ flat-project (project c) []
+  pub node : (i : ℕ) (n : Node) → getElem? (all-nodes (project c)) i ≡ some n → node-part i (records c) ≡ flat-node n []
+  pub edges : r .edges ≡ followed (project c)
+
+-- every report is about a project
+abbrev pub Reports : Type 0
+Reports = (c : Check) (r : Reported c) → Report-of c r
+
+-- Demand 3. Two calls get a report, and their projects differ at most in nodes' locals, equations and probes: the lines about no node are the
+-- same, and each node that is equal throughout has the same lines in both.
+abbrev pub Demand-3 : Type 0
+Demand-3 = (c d : Check) (r : Reported c) (s : Reported d)
+    → shown all (records c) ≡ shown all (records d)
+    → (about-no-node (lines-of c r) ≡ about-no-node (lines-of d s))
+    × ((i : ℕ) → node-part i (records c) ≡ node-part i (records d) → about i (lines-of c r) ≡ about i (lines-of d s))
+
+-- no line has a number that is no name's
+abbrev pub No-stray : Type 0
+No-stray = (c : Check) (r : Reported c) (l : Said) → List·Memᴰ l (lines-of c r) → (w : ℕ) → l .name ≡ stray w → ⊥
+
+-- what holds of an operator with the equations qs, node i of a call that gets a report
+pub record Operator-lines (c : Check) (r : Reported c) (i : ℕ) (qs : List Equation) : Type 0 where
+  -- a line about it has code 60 only if there is a directed cycle
+  pub only-if : (l : Said) → List·Memᴰ l (about i (lines-of c r)) → l .code ≡ 60 → Cyclic qs
+  -- and if there is one, some line has it
+  pub if-so : Cyclic qs → (l : Said) × List·Memᴰ l (about i (lines-of c r)) × (l .code ≡ 60)
+  -- these lines are then together one closed path, the one that the Rust's search finds
+  pub path : Cyclic qs → (p : List Name) × Closed qs p × (loop-lines i (lines-of c r) ≡ path-lines i 0 p) × (rust-search qs ≡ some p)
+
+-- Demand 2 on E0060, of node i of a call that gets a report; a function and an imported node get none.
+abbrev pub Demand-2-loops : Type 0
+Demand-2-loops = (c : Check) (r : Reported c) (i : ℕ) (n : Node) → getElem? (all-nodes (project c)) i ≡ some n
+    → (n .kind ≡ Operator → Operator-lines c r i (n .equations))
+    × (n .kind ≡ Function → loop-lines i (lines-of c r) ≡ [])
+    × (n .kind ≡ Imported → loop-lines i (lines-of c r) ≡ [])

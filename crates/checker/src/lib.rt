@@ -1,0 +1,72 @@
+// The call that reports on a whole project, in document 01's form: kinds, words and text are lent, work memory, and a slice of lines, each
+// a record of six fields. All computing is done by `staging` on plain slices, a batch of lines at a time; here each batch is stored as
+// structs by `stored`. The records are handed on by a `Reader`. Refusals 1 to 6 change nothing; after a report or refusal 7 the lines that
+// fit are stored, and all work memory is zero. `check_all` is the same by value, for callers that lend no lines.
+use lustre::Answer;
+use lustre::Line;
+use reader::Reader;
+use staging::answer_of;
+use staging::first_batch;
+use staging::next_batch;
+use stored::fill;
+ghost use mathlib.Core.Path.{_≡_};
+ghost use lib.ListN.{replicate};
+ghost use Rattle.staging.specs.Batches.{blank};
+ghost use Rattle.checker.specs.Call.{Checked};
+
+// The report on the records that a reader holds: batch after batch is stored, until none is left.
+pub fn check_reader<'a>(r: Reader<'a>, text: &[u8], work: &mut [u64], lines: &mut [Line]) -> Answer
+    ensures { λ a. ⌜ Checked (now (r .entry .kinds)) (now (r .entry .words)) (now (text .entry)) (now (work .entry)) (now (lines .entry)) a (now (work .exit)) (now (lines .exit)) ⌝ }
+{
+    let mut b = first_batch(r.kinds, r.words, text, work, lines.len());
+    while b.at < b.goal {
+        fill(lines, b.at, b.count, work);
+        b = next_batch(r.kinds, r.words, work, b);
+    }
+    answer_of(b)
+}
+
+// `check_project`, lib.rs 134: the report on a whole project, or one of seven refusals.
+pub fn check_project(
+    kinds: &[u8],
+    words: &[u64],
+    text: &[u8],
+    work: &mut [u64],
+    lines: &mut [Line],
+) -> Answer
+    ensures { λ a. ⌜ Checked (now (kinds .entry)) (now (words .entry)) (now (text .entry)) (now (work .entry)) (now (lines .entry)) a (now (work .exit)) (now (lines .exit)) ⌝ }
+{
+    check_reader(reader::new(kinds, words), text, work, lines)
+}
+
+// An answer with its lines; those past the answer's count are blank.
+pub struct Report {
+    pub answer: Answer,
+    pub lines: [Line; 1024],
+}
+
+// A line of zeros.
+fn blank() -> Line
+    ensures { λ r. ⌜ r ≡ blank ⌝ }
+{
+    Line {
+        code: 0,
+        place: 0,
+        number: 0,
+        equation: 0,
+        step: 0,
+        name: 0,
+    }
+}
+
+// The report by value, with room for 1,024 lines, the number that document 01's program lends.
+pub fn check_all(kinds: &[u8], words: &[u64], text: &[u8], work: &mut [u64]) -> Report
+    ensures { λ r. ⌜ Checked (now (kinds .entry)) (now (words .entry)) (now (text .entry)) (now (work .entry)) (replicate 1024 blank) (r .answer) (now (work .exit)) (r .lines) ⌝ }
+{
+    let mut lines = [blank(); 1024];
+    let a = check_project(kinds, words, text, work, &mut lines);
+    Report {
+        answer: a,
+        lines: lines,
+    }
+}
