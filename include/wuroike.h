@@ -81,8 +81,8 @@ enum wuroike_answer {
  * The lines may be declared as wuroike_line[n] and lent as &line[0].code with 6 * n words.
  *
  * Stack: proofs don't speak of it, so these are measured peaks of the call, in bytes (docs/PERFORMANCE.md). 60 levels of expression, the
- * deepest accepted: 1,058,552 (a fold with a seed), 951,880 (a fold without), 632,088 (if), less for all else. 4,096 nested records, which
- * are refused once all are read: 1,050,376. A path of 512 names: 142,208. A clean model: 98,872. Give a thread 1,200,000.
+ * deepest accepted: 1,025,768 (a fold with a seed), 919,096 (a fold without), 599,304 (if), less for all else. 4,096 nested records, which
+ * are refused once all are read: 1,018,552. A path of 512 names: 109,424. A clean model: 66,088. Give a thread 1,200,000.
  * Static memory: none is written.
  */
 uint64_t wuroike_check(const uint8_t *kinds, size_t kinds_length, const uint64_t *words, size_t words_length, const uint8_t *text,
