@@ -40,22 +40,61 @@ pub enum Structure {
     TooDeep(usize),
 }
 
-// The sort of a kind in the table.
+// The sort of a kind, 0 for no kind: those from 20 are types, those from 40 expressions.
 fn sort_of(kind: u8) -> u8
     ensures { λ r. ⌜ r ≡ sort-in kind ⌝ }
 {
-    if kind < 85 {
-        tables::SORTS[kind as usize]
-    } else {
-        0
+    if kind < 14 {
+        return tables::SORTS[kind as usize];
     }
+    if kind < 20 {
+        return 0;
+    }
+    if kind < 34 {
+        return 9;
+    }
+    if kind < 40 {
+        return 0;
+    }
+    if kind < 84 {
+        return 10;
+    }
+    if kind == 84 {
+        return 11;
+    }
+    0
 }
 
-// The entry of the table of operands at an index, 0 past its end.
+// The entry of the table of operands at an index, 0 past its end. The kinds from 14 to 66 need no table: an array type has a type, not and
+// minus have one expression, the operators two, and nothing follows the others.
 fn operand_at(i: usize) -> u8
     ensures { λ r. ⌜ r ≡ operand-at i ⌝ }
 {
-    if i < 510 { tables::OPERANDS[i] } else { 0 }
+    if i < 84 {
+        return tables::DECLARATIONS[i];
+    }
+    if i < 270 {
+        if i == 192 {
+            return 9;
+        }
+        return 0;
+    }
+    if i < 282 {
+        if i % 6 == 0 {
+            return 10;
+        }
+        return 0;
+    }
+    if i < 402 {
+        if i % 6 < 2 {
+            return 10;
+        }
+        return 0;
+    }
+    if i < 510 {
+        return tables::EXPRESSIONS[i - 402];
+    }
+    0
 }
 
 // The level of a part that follows a record: lists and field values add none, a cast's type starts anew.
@@ -271,15 +310,20 @@ pub fn part_end(kinds: &[u8], words: &[u64], class: u8, at: usize) -> usize
     }
 }
 
-// The class of a kind's word in the table.
+// The class of a kind's word: 0 for no kind, 1 (no word) for the operators and what stands beside them.
 fn word_class(kind: u8) -> u8
     ensures { λ r. ⌜ r ≡ word-number (word-class kind) ⌝ }
 {
-    if kind < 85 {
-        tables::CLASSES[kind as usize]
-    } else {
-        0
+    if kind < 45 {
+        return tables::CLASSES[kind as usize];
     }
+    if kind < 70 {
+        return 1;
+    }
+    if kind < 85 {
+        return tables::LATER_CLASSES[kind as usize - 70];
+    }
+    0
 }
 
 // Whether a word is in the range of its kind, where there are so many names.

@@ -3,3 +3,4 @@ pub mod Sizes
 pub mod Parts
 pub mod FromFlat
 pub mod Owed
+pub mod Below

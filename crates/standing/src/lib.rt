@@ -8,12 +8,31 @@ ghost use mathlib.Core.Path.{_≡_};
 ghost use Rattle.lustre.specs.Expr.{size};
 ghost use Rattle.standing.specs.Owed.{owes as owes-of, There};
 
-// The number of parts that follow a record of a type or an expression.
+// The number of parts that follow a record of a type or an expression. Below 67 only a list, an array type, not, minus and the operators
+// have any.
 pub fn owes(kind: u8, word: u64) -> u64
     requires { ⌜ kind < 85 ⌝ }
     ensures { λ r. ⌜ r ≡ owes-of kind word ⌝ }
 {
-    let n = table::OWED[kind as usize];
+    if kind < 32 {
+        if kind == 3 {
+            return word;
+        }
+        return 0;
+    }
+    if kind < 45 {
+        if kind == 32 {
+            return 1;
+        }
+        return 0;
+    }
+    if kind < 47 {
+        return 1;
+    }
+    if kind < 67 {
+        return 2;
+    }
+    let n = table::OWED[kind as usize - 67];
     if n == table::BY_WORD { word } else { n }
 }
 

@@ -1,77 +1,10 @@
-// How many parts follow a record of each kind from 0 to 84, in lustre's grammar of types and expressions.
+// How many parts follow a record of each kind from 67 to 84, in lustre's grammar of types and expressions.
 
 // The entry of a kind whose word says how many.
 pub const BY_WORD: u64 = 255;
 
-// The kinds that begin no type, expression, list or field value have 0.
-pub const OWED: [u64; 85] = [
-    0,
-    0,
-    0,
-    BY_WORD, // 3 a list: its items
-    0,
-    0,
-    0,
-    0,
-    0,
-    0,
-    0,
-    0,
-    0,
-    0,
-    0,
-    0,
-    0,
-    0,
-    0,
-    0,
-    0, // 20 the basic types, to 31
-    0,
-    0,
-    0,
-    0,
-    0,
-    0,
-    0,
-    0,
-    0,
-    0,
-    0,
-    1, // 32 array type: its element
-    0, // 33 named type
-    0,
-    0,
-    0,
-    0,
-    0,
-    0,
-    0, // 40 the literals, to 43
-    0,
-    0,
-    0,
-    0, // 44 variable
-    1, // 45 not
-    1, // 46 minus
-    2, // 47 the binary operators, to 66
-    2,
-    2,
-    2,
-    2,
-    2,
-    2,
-    2,
-    2,
-    2,
-    2,
-    2,
-    2,
-    2,
-    2,
-    2,
-    2,
-    2,
-    2,
-    2,
+// The parts behind a record of each of these kinds.
+pub const OWED: [u64; 18] = [
     3, // 67 if
     1, // 68 pre
     2, // 69 arrow
