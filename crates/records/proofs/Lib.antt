@@ -4,6 +4,7 @@ pub mod Levels
 pub mod Steps
 pub mod Passes
 pub mod Words
+pub mod Ranges
 pub mod Rows
 pub mod Agree
 pub mod Projects

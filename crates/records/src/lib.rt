@@ -1,11 +1,14 @@
 // The records: words in range (refusal 4), one project (refusal 5) of bounded levels (refusal 6), and the end of the part that starts
 // at a record. Document 01, 'Records, in order of writing'. Any kinds and words are taken; where one slice is longer, its rest is not read.
-// The tables of kinds are lustre's grammar in numbers: one computed test over all kinds and sorts shows it.
+// Words in range are judged one by one, by a `Reader`; `first_bad` is that on plain slices. The tables of kinds are lustre's grammar in
+// numbers: one computed test over all kinds and sorts shows it.
 mod tables;
 
+use reader::Reader;
 ghost use mathlib.Core.Path.{_≡_};
 ghost use Prim.Native.Nat.{_+_, _<_};
 ghost use Rattle.lustre.specs.Records.{word-class, in-class, bad-record};
+ghost use Rattle.records.specs.Ranges.{judged, bad-from, record-at};
 ghost use Rattle.records.specs.Places.{mark, class-at, Passed};
 ghost use Rattle.records.specs.Stands.{End-asked, End-of};
 ghost use Rattle.records.specs.Tables.{sort-in, operand-at, inner-number, Part-asked, Operands-asked, Looked, one-want, many-wants, operand-wants, word-number, placed, Structured};
@@ -352,20 +355,42 @@ fn in_range(names: u64, kind: u8, word: u64) -> bool
     class == 6
 }
 
-// Refusal 4: the first record whose kind is unknown or whose word is out of range.
+// The place of a record, where there are so many.
+fn place_at(at: usize, count: usize) -> Place
+    ensures { λ r. ⌜ r ≡ placed (record-at at count) ⌝ }
+{
+    if at < count {
+        return Place::At(at);
+    }
+    Place::Nowhere
+}
+
+// Whether the word that the reader stands at is in the range of its kind.
+fn judge<'a>(r: Reader<'a>, names: u64) -> bool
+    ensures { λ b. ⌜ b ≡ judged names (r .entry) ⌝ }
+{
+    in_range(names, reader::kind(r), reader::word(r))
+}
+
+// The first record out of range, from where the reader stands on.
+pub fn first_bad_from<'a>(r: Reader<'a>, names: u64) -> Place
+    ensures { λ p. ⌜ p ≡ placed (bad-from names (r .entry)) ⌝ }
+{
+    let count = reader::count(r);
+    let mut s = r;
+    while s.at < count {
+        if judge(s, names) {
+            s = reader::next(s);
+        } else {
+            break;
+        }
+    }
+    place_at(s.at, count)
+}
+
+// Refusal 4: the first record whose kind is unknown or whose word is out of range. It makes a reader, and walks by it.
 pub fn first_bad(kinds: &[u8], words: &[u64], names: u64) -> Place
     ensures { λ r. ⌜ r ≡ placed (bad-record names 0 (now (kinds .entry)) (now (words .entry))) ⌝ }
 {
-    let mut i = 0;
-    while i < kinds.len() {
-        if i >= words.len() {
-            return Place::Nowhere;
-        }
-        if in_range(names, kinds[i], words[i]) {
-            i += 1;
-        } else {
-            return Place::At(i);
-        }
-    }
-    Place::Nowhere
+    first_bad_from(reader::new(kinds, words), names)
 }

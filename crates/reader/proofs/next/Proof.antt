@@ -42,7 +42,7 @@ use denote.Exit.{yes}
 use Rattle.reader.specs.declared.Reader.{Reader}
 use Rattle.reader.proofs.Reader as T
 use Rattle.reader.proofs.Reader.Laws as T′
-use Rattle.reader.specs.Move.{after}
+use Rattle.reader.specs.Move.{after, count}
 use Rattle.reader.proofs.next_at as next-at
 use Rattle.reader.proofs.next_at.Symbol as next-at-def
 use Rattle.reader.proofs.next_at.Symbol.{name as #reader·next-at}
@@ -67,8 +67,14 @@ module _ {M : Type 1} (𝓤 : URA M) (H : Heap 𝓤) (A : Atoms 𝓤) (W : Given
   abbrev mach : Val
   mach = T′.lowered d
 
-  abbrev count : ℕ
-  count = length (d .kinds .now)
+  abbrev kinds : ℕ
+  kinds = length (d .kinds .now)
+
+  abbrev words : ℕ
+  words = length (d .words .now)
+
+  abbrev args : ℕ × (ℕ × (ℕ × Unit {0}))
+  args = (d .at, (kinds, (words, tt)))
 
   abbrev made : ℕ → Reader
   made n = record { kinds = d .kinds; words = d .words; at = n }
@@ -83,16 +89,16 @@ module _ {M : Type 1} (𝓤 : URA M) (H : Heap 𝓤) (A : Atoms 𝓤) (W : Given
   Own = B (κ, tt) .own d (mach ∷ [])
 
   abbrev to-next-at : NextAt 𝓤 H A mem run .Ghost
-  to-next-at = ((tt, tt, tt, (d .at, (count, tt)), (vint w64 (d .at) ∷ [], (vint w64 count ∷ [], tt))), tt)
+  to-next-at = ((tt, tt, tt, args, (vint w64 (d .at) ∷ [], (vint w64 kinds ∷ [], (vint w64 words ∷ [], tt)))), tt)
 
-  asked : d .at < 2 ^ 64 → count < 2 ^ 64 → ent 𝓤 (emp 𝓤) (NextAt 𝓤 H A mem run .pre to-next-at)
-  asked at-fits count-fits =
-      qed W (‵ ftrue ∷ []) ∵ nothing ! $ owned ! usize (Is usize) (uint-makes 𝓤 H A W w64) count _ (refl, count-fits) $ fjoin ! $ owned ! usize (Is usize) (uint-makes 𝓤 H A W w64) (d .at) _ (refl, at-fits) $ fjoin ! $ move ! (1 ∷ 0 ∷ []) $ join ! $ frame ! $ done !
+  asked : d .at < 2 ^ 64 → kinds < 2 ^ 64 → words < 2 ^ 64 → ent 𝓤 (emp 𝓤) (NextAt 𝓤 H A mem run .pre to-next-at)
+  asked at-fits kinds-fits words-fits =
+      qed W (‵ ftrue ∷ []) ∵ nothing ! $ owned ! usize (Is usize) (uint-makes 𝓤 H A W w64) words _ (refl, words-fits) $ fjoin ! $ owned ! usize (Is usize) (uint-makes 𝓤 H A W w64) kinds _ (refl, kinds-fits) $ fjoin ! $ owned ! usize (Is usize) (uint-makes 𝓤 H A W w64) (d .at) _ (refl, at-fits) $ fjoin ! $ move ! (1 ∷ 0 ∷ []) $ join ! $ frame ! $ done !
 
-  said : (r : ℕ) → ent 𝓤 (ensured 𝓤 H A next-at.ended (next-at.clauses 𝓤 H A mem run) tt (d .at, (count, tt)) tt r) (fact 𝓤 (r ≡ after (d .at) count))
-  said r = exE 𝓤 _ (λ ws. snd∗ 𝓤 (sem 𝓤 H A (lasts next-at.ended tt (d .at, (count, tt)) ws)) (fact 𝓤 (r ≡ after (d .at) count)))
+  said : (r : ℕ) → ent 𝓤 (ensured 𝓤 H A next-at.ended (next-at.clauses 𝓤 H A mem run) tt args tt r) (fact 𝓤 (r ≡ after (d .at) (count d)))
+  said r = exE 𝓤 _ (λ ws. snd∗ 𝓤 (sem 𝓤 H A (lasts next-at.ended tt args ws)) (fact 𝓤 (r ≡ after (d .at) (count d))))
 
-  exits : (r : ℕ) → r < 2 ^ 64 → r ≡ after (d .at) count → ent 𝓤 (onEntry 𝓤 H A next.signature (κ, tt) (q, tt) (d, tt) at) (Post (T′.lowered (made r)))
+  exits : (r : ℕ) → r < 2 ^ 64 → r ≡ after (d .at) (count d) → ent 𝓤 (onEntry 𝓤 H A next.signature (κ, tt) (q, tt) (d, tt) at) (Post (T′.lowered (made r)))
   exits r ok e =
       qed W ((‵ (flft κ q) ⊛ ‵ ftrue) ∷ ‵ (owns (B (κ, tt) ∷ []) (d, tt) at) ∷ []) ∵
       suffices ! _ (ends-at 𝓤 H A next.ended stayed (next.clauses 𝓤 H A mem run) W (((κ, tt), (q, tt), tt, (d, tt), at), tt) (T′.lowered (made r)) (made r) (tt, tt) (tt, tt)) $ says ! (ap made e) $
@@ -104,22 +110,23 @@ module _ {M : Type 1} (𝓤 : URA M) (H : Heap 𝓤) (A : Atoms 𝓤) (W : Given
     walk : Holds (hasTy (T′.mir (named 0)) mach) × WT mach → ent 𝓤 (onEntry 𝓤 H A next.signature (κ, tt) (q, tt) (d, tt) at) (WpFn 𝓤 H C Λ code.function (mach ∷ []) Post)
     walk wt =
         qed W ((‵ (flft κ q) ⊛ ‵ ftrue) ∷ ‵ (owns (B (κ, tt) ∷ []) (d, tt) at) ∷ []) ∵ enter ! C Λ code.function (mach ∷ []) _ $
-        alloc1 ! (λ l₀. alloc1 ! (λ l₁. alloc1 ! (λ l₂. alloc1 ! (λ l₃. alloc1 ! (λ l₄. alloc1 ! (λ l₅. alloc1 ! (λ l₆. alloc0 ! $ params1 ! $ pass1 ! (init ! 10 refl wt) $ pass0 ! $
-        -- [_6; …; and so on to room for _0; …; the token; what r owns]
-        assigns ! (of-opd ! (load ! (from ! (fld ! refl (stop !))) (look-in ! 10 (sub ! 2 refl (whole !))))) (from ! (stop !)) (init ! 6 refl (tt, wt .1 .1 .1 .0)) $
-        assigns ! (of-opd ! (load ! (from ! (fld ! refl (fld ! refl (stop !)))) (look-in ! 10 (sub ! 1 refl (sub ! 0 refl (whole !)))))) (from ! (stop !)) (init ! 4 refl (tt, wt .1 .0 .1 .0)) $
-        use0 W (raw (NextAt 𝓤 H A mem run .pre to-next-at)) (asked (wt .1 .1 .1 .0 .fits) (wt .1 .0 .1 .0 .fits)) $
-        calls-at ! fm (NextAt 𝓤 H A mem run) known to-next-at (and-then ! (load ! (from ! (stop !)) (look ! 7 refl)) (and-then ! (load ! (from ! (stop !)) (look ! 5 refl)) (no-more !))) (λ u.
-        use1 W (later (some (λ (r : ℕ). (‵ ftrue ⊛ ‵ (usize .own r (u ∷ []))) ⊛ raw (ensured 𝓤 H A next-at.ended (next-at.clauses 𝓤 H A mem run) tt (d .at, (count, tt)) tt r)))) (id⊢ 𝓤 _) $ await ! tt $ pick ! (λ r.
-        split ! $ move ! (1 ∷ []) $ use1 W (raw (fact 𝓤 (r ≡ after (d .at) count))) (said r) $ heard ! (r ≡ after (d .at) count) (λ e. split ! $ drop ! $
+        alloc1 ! (λ l₀. alloc1 ! (λ l₁. alloc1 ! (λ l₂. alloc1 ! (λ l₃. alloc1 ! (λ l₄. alloc1 ! (λ l₅. alloc1 ! (λ l₆. alloc1 ! (λ l₇. alloc0 ! $ params1 ! $ pass1 ! (init ! 12 refl wt) $ pass0 ! $
+        -- [_7; …; and so on to room for _0; …; the token; what r owns]
+        assigns ! (of-opd ! (load ! (from ! (fld ! refl (stop !))) (look-in ! 12 (sub ! 2 refl (whole !))))) (from ! (stop !)) (init ! 8 refl (tt, wt .1 .1 .1 .0)) $
+        assigns ! (of-opd ! (load ! (from ! (fld ! refl (fld ! refl (stop !)))) (look-in ! 12 (sub ! 1 refl (sub ! 0 refl (whole !)))))) (from ! (stop !)) (init ! 6 refl (tt, wt .1 .0 .1 .0)) $
+        assigns ! (of-opd ! (load ! (from ! (fld ! refl (fld ! refl (stop !)))) (look-in ! 12 (sub ! 1 refl (sub ! 1 refl (whole !)))))) (from ! (stop !)) (init ! 4 refl (tt, wt .1 .1 .0 .1 .0)) $
+        use0 W (raw (NextAt 𝓤 H A mem run .pre to-next-at)) (asked (wt .1 .1 .1 .0 .fits) (wt .1 .0 .1 .0 .fits) (wt .1 .1 .0 .1 .0 .fits)) $
+        calls-at ! fm (NextAt 𝓤 H A mem run) known to-next-at (and-then ! (load ! (from ! (stop !)) (look ! 9 refl)) (and-then ! (load ! (from ! (stop !)) (look ! 7 refl)) (and-then ! (load ! (from ! (stop !)) (look ! 5 refl)) (no-more !)))) (λ u.
+        use1 W (later (some (λ (r : ℕ). (‵ ftrue ⊛ ‵ (usize .own r (u ∷ []))) ⊛ raw (ensured 𝓤 H A next-at.ended (next-at.clauses 𝓤 H A mem run) tt args tt r)))) (id⊢ 𝓤 _) $ await ! tt $ pick ! (λ r.
+        split ! $ move ! (1 ∷ []) $ use1 W (raw (fact 𝓤 (r ≡ after (d .at) (count d)))) (said r) $ heard ! (r ≡ after (d .at) (count d)) (λ e. split ! $ drop ! $
         facts ! usize (Is usize) (shows 𝓤 H A usize) r (u ∷ []) (λ is.
-        land ! (from ! (stop !)) (init ! 8 refl (uint-lawful 𝓤 H A W w64 .typed r _ is .0)) $ rewrite ! 8 (λ (v : Val). ‵ (fat fullShare (tyInt w64) l₂ 0 v)) (ap only (is .0)) refl $
-        assigns ! (of-opd ! (load ! (from ! (fld ! refl (stop !))) (look-in ! 10 (sub ! 0 refl (whole !))))) (from ! (stop !)) (init ! 2 refl (tt, wt .1 .0)) $
-        assigns ! (of-opd ! (load ! (from ! (fld ! refl (stop !))) (look-in ! 10 (sub ! 1 refl (whole !))))) (from ! (stop !)) (init ! 0 refl (tt, wt .1 .1 .0)) $
-        assigns ! (agg ! (and-then ! (load ! (from ! (stop !)) (look ! 2 refl)) (and-then ! (load ! (from ! (stop !)) (look ! 0 refl)) (and-then ! (load ! (from ! (stop !)) (look ! 8 refl)) (no-more !))))) (from ! (stop !)) (init ! 12 refl (tt, (wt .1 .0, (wt .1 .1 .0, (record { fits = is .1 }, tt))))) $
-        returns ! (look ! 12 refl) $ forget ! 0 refl $ forget ! 2 refl $ forget ! 4 refl $ forget ! 6 refl $ forget ! 8 refl $ forget ! 10 refl $ forget ! 12 refl $
-        move ! (12 ∷ 13 ∷ []) $ free1 ! $ move ! (10 ∷ 11 ∷ []) $ free1 ! $ move ! (8 ∷ 9 ∷ []) $ free1 ! $ move ! (6 ∷ 7 ∷ []) $ free1 ! $ move ! (4 ∷ 5 ∷ []) $ free1 ! $ move ! (2 ∷ 3 ∷ []) $ free1 ! $ free1 ! $ free0 ! $ by ! (exits r (is .1) e)
-        )))))))))))
+        land ! (from ! (stop !)) (init ! 10 refl (uint-lawful 𝓤 H A W w64 .typed r _ is .0)) $ rewrite ! 10 (λ (v : Val). ‵ (fat fullShare (tyInt w64) l₂ 0 v)) (ap only (is .0)) refl $
+        assigns ! (of-opd ! (load ! (from ! (fld ! refl (stop !))) (look-in ! 12 (sub ! 0 refl (whole !))))) (from ! (stop !)) (init ! 2 refl (tt, wt .1 .0)) $
+        assigns ! (of-opd ! (load ! (from ! (fld ! refl (stop !))) (look-in ! 12 (sub ! 1 refl (whole !))))) (from ! (stop !)) (init ! 0 refl (tt, wt .1 .1 .0)) $
+        assigns ! (agg ! (and-then ! (load ! (from ! (stop !)) (look ! 2 refl)) (and-then ! (load ! (from ! (stop !)) (look ! 0 refl)) (and-then ! (load ! (from ! (stop !)) (look ! 10 refl)) (no-more !))))) (from ! (stop !)) (init ! 14 refl (tt, (wt .1 .0, (wt .1 .1 .0, (record { fits = is .1 }, tt))))) $
+        returns ! (look ! 14 refl) $ forget ! 0 refl $ forget ! 2 refl $ forget ! 4 refl $ forget ! 6 refl $ forget ! 8 refl $ forget ! 10 refl $ forget ! 12 refl $ forget ! 14 refl $
+        move ! (14 ∷ 15 ∷ []) $ free1 ! $ move ! (12 ∷ 13 ∷ []) $ free1 ! $ move ! (10 ∷ 11 ∷ []) $ free1 ! $ move ! (8 ∷ 9 ∷ []) $ free1 ! $ move ! (6 ∷ 7 ∷ []) $ free1 ! $ move ! (4 ∷ 5 ∷ []) $ free1 ! $ move ! (2 ∷ 3 ∷ []) $ free1 ! $ free1 ! $ free0 ! $ by ! (exits r (is .1) e)
+        ))))))))))))
 
 module _ {M : Type 1} (𝓤 : URA M) (H : Heap 𝓤) (A : Atoms 𝓤) (W : Given 𝓤 H A) (mem : Memory → SProp 𝓤) (run : Routine → Fun 𝓤) where
   next-walks : (C : Calls 𝓤 H) (Λ : Loops 𝓤 H) → FmC 𝓤 H (W .laws) C → Triple 𝓤 (C #reader·next-at) (NextAt 𝓤 H A mem run) → Walks 𝓤 H A next.ended stayed (WpFn 𝓤 H C Λ code.function) (next.clauses 𝓤 H A mem run)
