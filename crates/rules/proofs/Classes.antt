@@ -3,7 +3,7 @@
 use Prim.Native.Nat.{ℕ, _+_, _≤_, _<_}
 use native.Mathlib.Omega.{arith}
 use mathlib.Core.Path.{_≡_, refl, sym}
-use mathlib.Core.Bool.{_&&_}
+use mathlib.Core.Bool.{false, _&&_}
 use mathlib.Core.Option.{Option, none}
 use lib.Dec.{leb}
 use Rattle.lustre.specs.Name.{if_then_else_}
@@ -12,7 +12,9 @@ use Rattle.lustre.specs.Expr.{BinOp, OpClass, Logic, Equality, Order, Arithmeti
 use Rattle.lustre.specs.Expr.{And, Or, Xor, Implies, Eq, Neq, Lt, Le, Gt, Ge, Add, Sub, Mul, Div, Mod, BitAnd, BitOr, BitXor, Shl, Shr}
 use Rattle.lustre.specs.Grammar.{op-kind}
 use Rattle.lustre.specs.Infer.{meets, fault, gives, sub-hint}
+use Rattle.types.specs.Scope.{kind-of}
 use Rattle.rules.specs.Classes.{rank}
+use Rattle.rules.proofs.BasicKinds.{other-kind, other-truth}
 
 -- the rank of an operator's class, by the operator's kind
 abbrev rank-at : ℕ → ℕ
@@ -115,3 +117,12 @@ module _ (h : Option Ty) {k : ℕ} where
   sub-same Order e g = absurd (omega arith)
   sub-same Arithmetic e g = refl
   sub-same Bitwise e g = refl
+
+-- no class but equality holds of types of two kinds
+pub meets-not : (s t : Ty) → (kind-of s ≡ kind-of t → ⊥) → (c : OpClass) → (rank c ≡ 1 → ⊥) → meets c s t ≡ false
+unfolding rank meets
+meets-not s t h Logic e = other-truth s t h
+meets-not s t h Equality e = absurd (e refl)
+meets-not s t h Order e = other-kind 21 30 (omega arith) s t h
+meets-not s t h Arithmetic e = other-kind 21 30 (omega arith) s t h
+meets-not s t h Bitwise e = other-kind 21 28 (omega arith) s t h

@@ -12,22 +12,22 @@ use crate::ports::find_port;
 use lines::Spot;
 use lines::put_line;
 use types::Typ;
+use types::aliases::basic_kind;
 use types::aliases::compatible;
 use types::aliases::resolve;
 use types::bottom_of;
 use types::element;
-use types::is_bool;
-use types::is_integer;
 use types::is_numeric;
 use types::records::read_type;
-use types::same;
 ghost use mathlib.Core.Path.{_≡_};
-ghost use mathlib.Core.Bool.{false};
+ghost use mathlib.Core.Bool.{false, _&&_};
 ghost use mathlib.Core.List.{[], _∷_};
 ghost use mathlib.Core.Option.{some};
-ghost use Prim.Native.Nat.{_-_, _<_, _≤_, max};
+ghost use Prim.Native.Nat.{_+_, _-_, _<_, _≤_, max};
 ghost use Rattle.lustre.specs.Name.{if_then_else_};
-ghost use Rattle.lustre.specs.Types.{is-bool, is-integer};
+ghost use lib.Dec.{eqb, leb};
+ghost use lib.ListN.{length, getD};
+ghost use Rattle.lustre.specs.Types.{within, is-bool, is-integer};
 ghost use Rattle.lustre.specs.Expr.{UnaryOp, BinOp, OpClass, op-class};
 ghost use Rattle.lustre.specs.Grammar.{unary-kind, op-kind};
 ghost use Rattle.lustre.specs.Line.{plain, named, require};
@@ -112,13 +112,43 @@ fn refuse(out: &mut [u64], q: Spot, n: u64, code: u64, step: usize, name: u64) -
     }
 }
 
+// Whether a kind is from low to high.
+fn is_between(k: u8, low: u8, high: u8) -> bool
+    ensures { λ r. ⌜ r ≡ (leb low k && leb k high) ⌝ }
+{
+    if k < low {
+        return false;
+    }
+    k <= high
+}
+
+// Whether the type t is a basic type of the kinds from low to high once resolved.
+fn resolves_within(kinds: &[u8], words: &[u64], scope: &[u64], t: Typ, low: u8, high: u8) -> bool
+    requires { ⌜ World (now kinds) (now words) (now scope) × (0 < low) ⌝ }
+    ensures { λ r. ⌜ ((W : World (now (kinds .entry)) (now (words .entry)) (now (scope .entry))) → r ≡ within low high (res (W .Γ) (asTy (W .text) t))) ⌝ }
+{
+    let k = basic_kind(kinds, words, scope, t);
+    is_between(k, low, high)
+}
+
 // Whether the type t is Bool once resolved.
 pub fn is_truth(kinds: &[u8], words: &[u64], scope: &[u64], t: Typ) -> bool
     requires { ⌜ World (now kinds) (now words) (now scope) ⌝ }
     ensures { λ r. ⌜ ((W : World (now (kinds .entry)) (now (words .entry)) (now (scope .entry))) → r ≡ is-bool (res (W .Γ) (asTy (W .text) t))) ⌝ }
 {
-    let s = resolve(kinds, words, scope, t);
-    is_bool(s)
+    resolves_within(kinds, words, scope, t, 20, 20)
+}
+
+// The entry of a name among ports and locals, or else among constants.
+fn typed_at(scope: &[u64], i: usize) -> u64
+    requires { ⌜ (3072 ≤ length (now scope)) × (i < 512) ⌝ }
+    ensures { λ r. ⌜ r ≡ (if eqb (getD (now (scope .entry)) (i + 2560) 0) 0 then getD (now (scope .entry)) (i + 1536) 0 else getD (now (scope .entry)) (i + 2560) 0) ⌝ }
+{
+    let p = scope[i + 2560];
+    if p != 0 {
+        return p;
+    }
+    scope[i + 1536]
 }
 
 // A variable, lib.rs 754: among ports and locals, then constants, then variants; else E0080.
@@ -137,14 +167,9 @@ pub fn var_rule(
     ensures { λ r. ⌜ Ruled (now (kinds .entry)) (now (words .entry)) (now (scope .entry)) q (λ W. var-rule (W .Γ) at (W .text name)) next 67 (now (out .entry)) n r (now (out .exit)) ⌝ }
 {
     let i = name as usize;
-    let p = scope[i + 2560];
+    let p = typed_at(scope, i);
     if p != 0 {
         let j = p as usize;
-        return type_at(kinds, words, j, next, n);
-    }
-    let c = scope[i + 1536];
-    if c != 0 {
-        let j = c as usize;
         return type_at(kinds, words, j, next, n);
     }
     let v = scope[i + 1024];
@@ -178,9 +203,8 @@ pub fn unary_rule(
     requires { ⌜ World (now kinds) (now words) (now scope) × Known t ⌝ }
     ensures { λ r. ⌜ ((o : UnaryOp) → unary-kind o ≡ k → Ruled (now (kinds .entry)) (now (words .entry)) (now (scope .entry)) q (λ W. unary-of (W .Γ) at o (asTy (W .text) t)) next (t .levels) (now (out .entry)) n r (now (out .exit))) ⌝ }
 {
-    let s = resolve(kinds, words, scope, t);
     if k == 45 {
-        if is_bool(s) {
+        if is_truth(kinds, words, scope, t) {
             let typ = bottom_of(20, 0);
             return Inferred {
                 ok: true,
@@ -191,7 +215,7 @@ pub fn unary_rule(
         }
         return fail_plain(out, q, n, 81, at);
     }
-    if is_numeric(s) {
+    if resolves_within(kinds, words, scope, t, 21, 30) {
         return Inferred {
             ok: true,
             typ: t,
@@ -221,36 +245,26 @@ pub fn class_no(k: u8) -> u64
     4
 }
 
-// Whether the resolved types s and t of operands are what their class asks, lib.rs 823 to 897.
-fn meets(class: u64, s: Typ, t: Typ) -> bool
-    requires { ⌜ s .levels ≤ 127 ⌝ }
-    ensures { λ r. ⌜ ((ρ : Naming) → Injective ρ → (c : OpClass) → rank c ≡ class → r ≡ meets-class c (asTy ρ s) (asTy ρ t)) ⌝ }
+// Whether the types l and r of operands are what their class asks once resolved, lib.rs 823 to 897. All but equality asks for basic types.
+fn meets(kinds: &[u8], words: &[u64], scope: &[u64], class: u64, l: Typ, r: Typ) -> bool
+    requires { ⌜ World (now kinds) (now words) (now scope) × (l .levels ≤ 127) ⌝ }
+    ensures { λ b. ⌜ ((c : OpClass) → rank c ≡ class → (W : World (now (kinds .entry)) (now (words .entry)) (now (scope .entry))) → b ≡ meets-class c (res (W .Γ) (asTy (W .text) l)) (res (W .Γ) (asTy (W .text) r))) ⌝ }
 {
-    if class == 0 {
-        if is_bool(s) {
-            return is_bool(t);
-        }
+    if class == 1 {
+        return compatible(kinds, words, scope, l, r);
+    }
+    let x = basic_kind(kinds, words, scope, l);
+    let y = basic_kind(kinds, words, scope, r);
+    if x != y {
         return false;
     }
-    if class == 1 {
-        return same(s, t);
+    if class == 0 {
+        return is_between(x, 20, 20);
     }
     if class == 4 {
-        if is_integer(s) {
-            if is_integer(t) {
-                return same(s, t);
-            }
-            return false;
-        }
-        return false;
+        return is_between(x, 21, 28);
     }
-    if is_numeric(s) {
-        if is_numeric(t) {
-            return same(s, t);
-        }
-        return false;
-    }
-    false
+    is_between(x, 21, 30)
 }
 
 // A binary operator on operands of types l and r, lib.rs 805: E0083 to E0087.
@@ -270,9 +284,7 @@ pub fn operands(
     requires { ⌜ World (now kinds) (now words) (now scope) × (l .levels ≤ 127) × Known l × (class ≤ 4) ⌝ }
     ensures { λ a. ⌜ ((c : OpClass) → rank c ≡ class → Ruled (now (kinds .entry)) (now (words .entry)) (now (scope .entry)) q (λ W. operands-of (W .Γ) at c (asTy (W .text) l) (asTy (W .text) r)) next (l .levels) (now (out .entry)) n a (now (out .exit))) ⌝ }
 {
-    let s = resolve(kinds, words, scope, l);
-    let t = resolve(kinds, words, scope, r);
-    if meets(class, s, t) {
+    if meets(kinds, words, scope, class, l, r) {
         if class < 3 {
             let typ = bottom_of(20, 0);
             return Inferred {
@@ -396,8 +408,7 @@ fn index_note(
     requires { ⌜ World (now kinds) (now words) (now scope) ⌝ }
     ensures { λ r. ⌜ ((W : World (now (kinds .entry)) (now (words .entry)) (now (scope .entry))) → Noted (W .number) q (if_then_else_ (is-integer (res (W .Γ) (asTy (W .text) i))) [] (plain at 111 ∷ [])) (now (out .entry)) n r (now (out .exit))) ⌝ }
 {
-    let j = resolve(kinds, words, scope, i);
-    if is_integer(j) {
+    if resolves_within(kinds, words, scope, i, 21, 28) {
         return n;
     }
     put_line(out, q, n, 111, at as u64, NO_NAME)
@@ -449,8 +460,7 @@ pub fn cast_rule(
     requires { ⌜ World (now kinds) (now words) (now scope) × Known to ⌝ }
     ensures { λ r. ⌜ Ruled (now (kinds .entry)) (now (words .entry)) (now (scope .entry)) q (λ W. cast-of (W .Γ) at (asTy (W .text) to) (asTy (W .text) a)) next (to .levels) (now (out .entry)) n r (now (out .exit)) ⌝ }
 {
-    let s = resolve(kinds, words, scope, a);
-    if is_numeric(s) {
+    if resolves_within(kinds, words, scope, a, 21, 30) {
         if is_numeric(to) {
             return Inferred {
                 ok: true,

@@ -4,4 +4,5 @@ pub mod Values
 pub mod Places
 pub mod Seen
 pub mod Tries
+pub mod Follows
 pub mod Literals

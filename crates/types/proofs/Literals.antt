@@ -15,14 +15,14 @@ use mir.Syntax.{w64}
 use mir.Val.{toZ, ofZ, SFits, Fits, sel}
 use mir.ValLaws.{toZ-ofZ, toZ-pos, toZ-fits, ofZ-toZ}
 use borrow.Author.Tests.{eq-eqb, ne-eqb, eqb-true, eqb-false, le-leb, lt-leb, le-ltb, lt-ltb}
-use Rattle.lustre.specs.Name.{if_then_else_}
-use Rattle.lustre.specs.Types.{Ty, basic, Array, within, is-float, signed, range-of}
+use Rattle.lustre.specs.Name.{Name, if_then_else_}
+use Rattle.lustre.specs.Types.{Ty, basic, Array, Named, within, is-float, signed, range-of}
 use Rattle.lustre.specs.Expr.{Literal, bool, int, float, char}
 use Rattle.lustre.specs.Grammar.{literal-kind}
 use Rattle.lustre.specs.Resolve.{Aliases, resolve}
 use Rattle.lustre.specs.Literal.{in-range, in-some-range, fits, integer-type, float-type, literal-type}
 use Rattle.types.specs.Value.{Naming, bottom, asTy, maybe, Bottom}
-use Rattle.types.specs.Scope.{Resolves}
+use Rattle.types.specs.Scope.{kind-of, KindOf}
 use Rattle.types.specs.Number.{signedAs, rangeAs, Hinted}
 use Rattle.types.specs.declared.Typ.{Typ}
 use Rattle.types.specs.declared.Hint.{Hint}
@@ -138,14 +138,6 @@ module _ (v : ℤ) (ρ : Naming) (t : Typ) where
 
 -- ---- the type of a literal under a hint
 
--- a class that holds no array holds types without lengths
-flat-in : (P : Ty → Bool) → ((n : ℕ) (t : Ty) → P (Array n t) ≡ false) → (t : Typ) → P (asTy (λ n. []) t) ≡ true → t .levels ≡ 0
-flat-in P arrays t e = go (eqb (t .levels) 0) refl
-  where
-    go : (b : Bool) → eqb (t .levels) 0 ≡ b → t .levels ≡ 0
-    go true q = eqb-true (t .levels) 0 q
-    go false q = absurd (never (sym (ap P (view-array (λ n. []) t (eqb-false (t .levels) 0 q)) ∙ arrays _ _) ∙ e))
-
 -- r is the basic type d
 pub record Basic (d : ℕ) (r : Typ) : Type 0 where
   pub flat : r .levels ≡ 0
@@ -155,35 +147,67 @@ pub record Basic (d : ℕ) (r : Typ) : Type 0 where
 pub bottom-is : {d : ℕ} {r : Typ} → Bottom d 0 r → (d ≡ 33 → ⊥) → Basic d r
 bottom-is {d} b n = record { flat = b .flat; base = λ e. n (sym (b .base) ∙ e); is = λ ρ. b .is ρ ∙ bottom-basic ρ d 0 n }
 
--- f gives the resolved hint if that is in a class P, else the basic type d
+-- f gives the resolved hint if that is in a class P, which holds basic types alone, else the basic type d
 pub record Picks (P : Ty → Bool) (d : ℕ) (f : Aliases → Option Ty → Ty) : Type 0 where
   pub arrays : (n : ℕ) (t : Ty) → P (Array n t) ≡ false
+  pub names : (x : Name) → P (Named x) ≡ false
+  pub zero : P (basic 0) ≡ false
+  pub name : P (basic 33) ≡ false
   pub bare : (al : Aliases) → f al none ≡ basic d
   pub under : (al : Aliases) (h : Ty) → f al (some h) ≡ (if P (resolve al h) then resolve al h else basic d)
 
 pub picks-integer : (v : ℤ) → Picks (fits v) 23 (λ al. integer-type al v)
-unfolding fits integer-type
-picks-integer v = record { arrays = λ n t. refl; bare = λ al. refl; under = λ al h. refl }
+unfolding fits integer-type in-some-range range-of
+picks-integer v = record { arrays = λ n t. refl; names = λ x. refl; zero = refl; name = refl; bare = λ al. refl; under = λ al h. refl }
 
 pub picks-float : Picks is-float 30 float-type
 unfolding within float-type
-picks-float = record { arrays = λ n t. refl; bare = λ al. refl; under = λ al h. refl }
+picks-float = record { arrays = λ n t. refl; names = λ x. refl; zero = refl; name = refl; bare = λ al. refl; under = λ al h. refl }
+
+module _ {P : Ty → Bool} {d : ℕ} {f : Aliases → Option Ty → Ty} (p : Picks P d f) where
+  -- a type in the class is the basic type of its kind
+  by-kind : (t : Ty) → P (basic (kind-of t)) ≡ true → t ≡ basic (kind-of t)
+  unfolding kind-of
+  by-kind (basic k) e = refl
+  by-kind (Array n t) e = absurd (never (sym (p .zero) ∙ e))
+  by-kind (Named x) e = absurd (never (sym (p .zero) ∙ e))
+
+  not-kind : (t : Ty) → P (basic (kind-of t)) ≡ false → P t ≡ false
+  unfolding kind-of
+  not-kind (basic k) e = e
+  not-kind (Array n t) e = p .arrays n t
+  not-kind (Named x) e = p .names x
+
+  -- no name is in it
+  in-class : {k : ℕ} {t : Typ} → Bottom k 0 t → (ρ : Naming) → P (asTy ρ t) ≡ true → k ≡ 33 → ⊥
+  in-class {k} b ρ i e = never (sym (p .names (ρ 0)) ∙ ap P (sym (bottom-name ρ k 0 e)) ∙ ap P (sym (b .is ρ)) ∙ i)
+
+  out-class : {k : ℕ} {t : Typ} → Bottom k 0 t → (ρ : Naming) → P (asTy ρ t) ≡ false → P (basic k) ≡ false
+  out-class {k} b ρ i = go (eqb k 33) refl
+    where
+      go : (q : Bool) → eqb k 33 ≡ q → P (basic k) ≡ false
+      go true e = rw (eqb-true k 33 e) (p .name)
+      go false e = ap P (sym (b .is ρ ∙ bottom-basic ρ k 0 (eqb-false k 33 e))) ∙ i
 
 module _ {P : Ty → Bool} {d : ℕ} {f : Aliases → Option Ty → Ty} (p : Picks P d f) {ks ws sc : List ℕ} {h : Hint} where
-  pub takes-hint : {t : Typ} → h .given ≡ true → Resolves ks ws sc (h .typ) t → ((ρ : Naming) → P (asTy ρ t) ≡ true) → Hinted ks ws sc h f t
+  pub takes-hint : {k : ℕ} {t : Typ} → h .given ≡ true → KindOf ks ws sc (h .typ) k → Bottom k 0 t → ((ρ : Naming) → P (asTy ρ t) ≡ true) → Hinted ks ws sc h f t
   unfolding maybe
-  takes-hint {t} g q i = record {
-    flat = flat-in P (p .arrays) t (i (λ n. []));
-    known = q .known;
-    is = λ ρ al T. rw (g, p .under al (asTy ρ (h .typ)), ← q .is ρ al T, i ρ);
+  takes-hint {k} {t} g q b i = record {
+    flat = b .flat;
+    known = λ m e. absurd (in-class p b (λ n. []) (i (λ n. [])) (sym (b .base) ∙ e));
+    is = λ ρ al T.
+        let a : asTy ρ t ≡ basic k = b .is ρ ∙ bottom-basic ρ k 0 (in-class p b ρ (i ρ)) in
+        let m : P (basic (kind-of (resolve al (asTy ρ (h .typ))))) ≡ true = ap (λ (x : ℕ). P (basic x)) (sym (q .is ρ al T)) ∙ ap P (sym a) ∙ i ρ in
+        let w : resolve al (asTy ρ (h .typ)) ≡ basic k = by-kind p _ m ∙ ap basic (sym (q .is ρ al T)) in
+        a ∙ sym (rw (g, p .under al (asTy ρ (h .typ)), w, ← a, i ρ));
   }
 
-  pub leaves-hint : {t r : Typ} → h .given ≡ true → Resolves ks ws sc (h .typ) t → ((ρ : Naming) → P (asTy ρ t) ≡ false) → Basic d r → Hinted ks ws sc h f r
+  pub leaves-hint : {k : ℕ} {t r : Typ} → h .given ≡ true → KindOf ks ws sc (h .typ) k → Bottom k 0 t → ((ρ : Naming) → P (asTy ρ t) ≡ false) → Basic d r → Hinted ks ws sc h f r
   unfolding maybe
-  leaves-hint g q i b = record {
+  leaves-hint g q o i b = record {
     flat = b .flat;
     known = λ k e. absurd (b .base e);
-    is = λ ρ al T. rw (g, p .under al (asTy ρ (h .typ)), ← q .is ρ al T, i ρ) (b .is ρ);
+    is = λ ρ al T. rw (g, p .under al (asTy ρ (h .typ)), not-kind p (resolve al (asTy ρ (h .typ))) (ap (λ (x : ℕ). P (basic x)) (sym (q .is ρ al T)) ∙ out-class p o ρ (i ρ))) (b .is ρ);
   }
 
   pub no-hint : {r : Typ} → h .given ≡ false → Basic d r → Hinted ks ws sc h f r

@@ -53,7 +53,7 @@ module _ (ks ws : List ℕ) (at : ℕ) (p : TypeAt ks ws at) where
     unfolding arraysIn
     arrays-array = rw (kinds-on, eq-eqb (getD ks at 0) 32 k)
 
-    type-array : (ρ : Naming) → tyAt ρ ks ws at ≡ Array (getD ws at 0) (tyAt ρ ks ws (at + 1))
+    pub type-array : (ρ : Naming) → tyAt ρ ks ws at ≡ Array (getD ws at 0) (tyAt ρ ks ws (at + 1))
     unfolding tyOf
     type-array ρ = rw (kinds-on, words-on, eq-eqb (getD ks at 0) 32 k)
 
@@ -76,7 +76,7 @@ module _ (ks ws : List ℕ) (at : ℕ) (p : TypeAt ks ws at) where
     unfolding arraysIn
     arrays-bottom = rw (kinds-on, ne-eqb (getD ks at 0) 32 k)
 
-    type-bottom : (ρ : Naming) → tyAt ρ ks ws at ≡ bottom ρ (getD ks at 0) (getD ws at 0)
+    pub type-bottom : (ρ : Naming) → tyAt ρ ks ws at ≡ bottom ρ (getD ks at 0) (getD ws at 0)
     unfolding tyOf
     type-bottom ρ = rw (kinds-on, words-on, ne-eqb (getD ks at 0) 32 k)
 

@@ -38,7 +38,7 @@ wrap-zero l none = refl
 wrap-zero l (some t) = refl
 
 module _ (al : Aliases) where
-  no-levels : (f : ℕ) (t : Ty) → f ≡ 0 → by-depth al f t ≡ none
+  pub no-levels : (f : ℕ) (t : Ty) → f ≡ 0 → by-depth al f t ≡ none
   unfolding by-depth
   no-levels f t e = rw e
 
@@ -52,7 +52,7 @@ module _ (al : Aliases) where
       let e : suc f - suc k ≡ f - k = omega arith in
       rw e (ap (array-of (getD l k 0)) (arrays-around l k f t) ∙ wrap-array l k (by-depth al (f - k) t))
 
-  type-around : (ρ : Naming) (t : Typ) (f : ℕ) → by-depth al f (asTy ρ t) ≡ wrapped (t .lengths) (t .levels) (by-depth al (f - t .levels) (bottom ρ (t .base) (t .name)))
+  pub type-around : (ρ : Naming) (t : Typ) (f : ℕ) → by-depth al f (asTy ρ t) ≡ wrapped (t .lengths) (t .levels) (by-depth al (f - t .levels) (bottom ρ (t .base) (t .name)))
   unfolding asTy
   type-around ρ t f = arrays-around (t .lengths) (t .levels) f (bottom ρ (t .base) (t .name))
 
@@ -65,16 +65,16 @@ wrap-around a (some s) = ap some (sym (a .is s))
 
 module _ (ks ws sc : List ℕ) (ρ : Naming) (al : Aliases) (T : Table ρ al ks ws sc) (b n : ℕ) where
   -- it stays where it is no name, or a name without alias
-  basic-stays : (b ≡ 33 → ⊥) → (f : ℕ) → by-depth al (suc f) (bottom ρ b n) ≡ some (bottom ρ b n)
+  pub basic-stays : (b ≡ 33 → ⊥) → (f : ℕ) → by-depth al (suc f) (bottom ρ b n) ≡ some (bottom ρ b n)
   unfolding by-depth
   basic-stays h f = rw (bottom-basic ρ b n h)
 
-  name-stays : b ≡ 33 → slot sc n ≡ 0 → (f : ℕ) → by-depth al (suc f) (bottom ρ b n) ≡ some (bottom ρ b n)
+  pub name-stays : b ≡ 33 → slot sc n ≡ 0 → (f : ℕ) → by-depth al (suc f) (bottom ρ b n) ≡ some (bottom ρ b n)
   unfolding by-depth follow-alias target
   name-stays h z f = rw (bottom-name ρ b n h) (rw (T n, eq-eqb (slot sc n) 0 z))
 
   -- else it is what the type at its entry is, with a level fewer
-  name-leads : b ≡ 33 → (slot sc n ≡ 0 → ⊥) → (f : ℕ) → by-depth al (suc f) (bottom ρ b n) ≡ by-depth al f (tyAt ρ ks ws (slot sc n))
+  pub name-leads : b ≡ 33 → (slot sc n ≡ 0 → ⊥) → (f : ℕ) → by-depth al (suc f) (bottom ρ b n) ≡ by-depth al f (tyAt ρ ks ws (slot sc n))
   unfolding by-depth follow-alias target
   name-leads h z f = rw (bottom-name ρ b n h) (rw (T n, ne-eqb (slot sc n) 0 z))
 

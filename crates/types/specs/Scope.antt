@@ -1,7 +1,7 @@
 -- The aliases as the code has them: in the first 512 entries of the scope, by name number. An entry is 0 for no alias, else 1 and the
 -- number of the record that declares it, which is the place of the type behind that record.
 -- Assumes nothing: these are definitions.
-use Prim.Native.Nat.{ℕ, _≤_, max}
+use Prim.Native.Nat.{ℕ, _+_, _≤_, max}
 use mathlib.Core.Path.{_≡_}
 use mathlib.Core.Bool.{Bool, true, false}
 use mathlib.Core.List.{List, []}
@@ -9,11 +9,12 @@ use mathlib.Core.Option.{Option, none, some}
 use lib.Dec.{eqb, ltb}
 use lib.ListN.{length, getD}
 use Rattle.lustre.specs.Name.{if_then_else_}
-use Rattle.lustre.specs.Types.{Ty, Named}
+use Rattle.lustre.specs.Types.{Ty, basic, Array, Named}
 use Rattle.lustre.specs.Resolve.{Aliases, try-resolve, resolve, compatible}
-use Rattle.types.specs.Value.{Naming, Injective, asTy, maybe, Known}
+use Rattle.types.specs.Value.{Naming, Injective, bottom, asTy, maybe, Known}
 use Rattle.types.specs.Place.{TypeAt, tyAt}
 use Rattle.types.specs.declared.Typ.{Typ}
+use Rattle.types.specs.declared.aliases.Followed.{Followed}
 
 -- the entry of a name number; no number from 512 on has an alias
 unfoldable pub slot : List ℕ → ℕ → ℕ
@@ -43,6 +44,40 @@ pub record Resolves (ks ws sc : List ℕ) (t r : Typ) : Type 0 where
   pub few : r .levels ≤ max 64 (t .levels)
   pub known : Known t → Known r
   pub is : (ρ : Naming) (al : Aliases) → Table ρ al ks ws sc → asTy ρ r ≡ resolve al (asTy ρ t)
+
+-- the number of arrays around what is no array, and that
+unfoldable pub arrays : Ty → ℕ
+arrays (basic k) = 0
+arrays (Array n t) = arrays t + 1
+arrays (Named x) = 0
+
+unfoldable pub inside : Ty → Ty
+inside (basic k) = basic k
+inside (Array n t) = inside t
+inside (Named x) = Named x
+
+-- both of a type that there may be
+unfoldable pub shape : Option Ty → Option (ℕ × Ty)
+shape none = none
+shape (some t) = some (arrays t, inside t)
+
+-- so many arrays around a base, where b holds
+unfoldable pub shaped : Naming → Bool → ℕ → ℕ → ℕ → Option (ℕ × Ty)
+shaped ρ b k base name = if b then some (k, bottom ρ base name) else none
+
+-- what `follow` answers: what name number n resolves to, but for its lengths
+pub record Follows (ks ws sc : List ℕ) (n : ℕ) (r : Followed) : Type 0 where
+  pub is : (ρ : Naming) (al : Aliases) → Table ρ al ks ws sc → shape (try-resolve al 65 [] (Named (ρ n))) ≡ shaped ρ (r .ok) (r .levels) (r .base) (r .name)
+
+-- the kind of a basic type, 0 for an array and a name
+unfoldable pub kind-of : Ty → ℕ
+kind-of (basic k) = k
+kind-of (Array n t) = 0
+kind-of (Named x) = 0
+
+-- what `basic_kind` answers
+pub record KindOf (ks ws sc : List ℕ) (t : Typ) (r : ℕ) : Type 0 where
+  pub is : (ρ : Naming) (al : Aliases) → Table ρ al ks ws sc → r ≡ kind-of (resolve al (asTy ρ t))
 
 -- what `compatible` answers
 abbrev pub Compares : (ks ws sc : List ℕ) (a b : Typ) (r : Bool) → Type 0

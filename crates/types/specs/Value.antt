@@ -2,7 +2,7 @@
 -- Assumes nothing: these are definitions.
 use Prim.Native.Nat.{ℕ, zero, suc, _+_, _-_, _<_}
 use mathlib.Core.Path.{_≡_}
-use mathlib.Core.Bool.{Bool}
+use mathlib.Core.Bool.{Bool, true}
 use mathlib.Core.List.{List}
 use mathlib.Core.Option.{Option, none, some}
 use lib.Dec.{eqb}
@@ -57,6 +57,10 @@ pub record ArrayOf (n : ℕ) (e t : Typ) : Type 0 where
   pub name : t .name ≡ e .name
   pub levels : t .levels ≡ e .levels + 1
   pub is : (ρ : Naming) → asTy ρ t ≡ Array n (asTy ρ e)
+
+-- what `same_basic` answers: if true, a and b are one type, whatever the names' texts
+abbrev pub SameBasic : Typ → Typ → Bool → Type 0
+SameBasic a b r = r ≡ true → (ρ : Naming) → asTy ρ a ≡ asTy ρ b
 
 -- r has the lengths of t around those of u, and the bottom of u
 pub record Around (t u r : Typ) : Type 0 where

@@ -3,7 +3,7 @@
 // are compared by width and sign: n and −(n + 1) have one bound, 2^(w − 1), in the signed range of width w.
 use crate::Hint;
 use crate::Typ;
-use crate::aliases::resolve;
+use crate::aliases::basic_kind;
 use crate::bottom_of;
 use crate::is_float;
 ghost use mathlib.Core.Path.{_≡_};
@@ -145,7 +145,8 @@ pub fn integer_literal_type(
 {
     if hint.given {
         let h = hint.typ;
-        let t = resolve(kinds, words, scope, h);
+        let k = basic_kind(kinds, words, scope, h);
+        let t = bottom_of(k, 0);
         if fits_in_integer(word, negated, t) {
             return t;
         }
@@ -161,7 +162,8 @@ fn float_literal_type(kinds: &[u8], words: &[u64], scope: &[u64], hint: Hint) ->
 {
     if hint.given {
         let h = hint.typ;
-        let t = resolve(kinds, words, scope, h);
+        let k = basic_kind(kinds, words, scope, h);
+        let t = bottom_of(k, 0);
         if is_float(t) {
             return t;
         }

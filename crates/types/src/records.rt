@@ -12,7 +12,7 @@ pub struct TypeRead {
 }
 
 // The last record of the type at a place.
-fn last_of(kinds: &[u8], words: &[u64], at: usize) -> usize
+pub fn last_of(kinds: &[u8], words: &[u64], at: usize) -> usize
     requires { ⌜ TypeAt (now kinds) (now words) at ⌝ }
     ensures { λ r. ⌜ Last (now (kinds .entry)) (now (words .entry)) at r ⌝ }
 {

@@ -1,28 +1,24 @@
 -- `rules::cast_rule` meets its contract. Assumes nothing.
 use native.Mathlib.Omega.{arith}
-use mathlib.Core.Path.{refl, sym, ap, _∙_}
+use mathlib.Core.Path.{refl, sym, _∙_}
 use borrow.Author.Needs.{needs}
-use Rattle.lustre.specs.Types.{is-numeric}
 use Rattle.lustre.specs.Infer.{cast-of}
 use Rattle.rules.proofs.Laws.{returned, refused, passed}
 use Rattle.rules.proofs.cast_rule.Statement.{statement}
 use Rattle.rules.proofs.cast_rule.Tie as tie
 
-resolve-requires : tie.Need-resolve-requires
-resolve-requires c κs = search needs
+resolves-within-requires : tie.Need-resolves-within-requires
+resolves-within-requires c κs = (c .before .before .before .before .pre .0, omega arith)
 
 is-numeric-requires : tie.Need-is-numeric-requires
 is-numeric-requires c κs = search needs
-
-is-numeric-requires-2 : tie.Need-is-numeric-requires-2
-is-numeric-requires-2 c κs = search needs
 
 returns : tie.Need-returns
 unfolding cast-of
 returns c =
     λ W.
-    passed _ (sym (c .before .before .before .is-numeric .ensures (W .text) ∙ ap is-numeric (c .before .before .before .before .resolve .ensures .is (W .text) (W .Γ .alias) (W .alias))) ∙ c .before .before .if1 .taken)
-    (passed _ (sym (c .before .is-numeric2 .ensures (W .text)) ∙ c .if2 .taken) (returned _ (omega arith) (c .before .before .before .before .before .before .before .before .before .pre .1) refl refl))
+    passed _ (sym (c .before .before .before .resolves-within .ensures W) ∙ c .before .before .if1 .taken)
+    (passed _ (sym (c .before .is-numeric .ensures (W .text)) ∙ c .if2 .taken) (returned _ (omega arith) (c .before .before .before .before .before .before .before .before .pre .1) refl refl))
 
 fail-plain-requires : tie.Need-fail-plain-requires
 fail-plain-requires c κs = search needs
@@ -34,8 +30,8 @@ returns-2 : tie.Need-returns-2
 unfolding cast-of
 returns-2 c =
     λ W.
-    passed _ (sym (c .before .before .before .before .before .before .before .is-numeric .ensures (W .text) ∙ ap is-numeric (c .before .before .before .before .before .before .before .before .resolve .ensures .is (W .text) (W .Γ .alias) (W .alias))) ∙ c .before .before .before .before .before .before .if1 .taken)
-    (refused _ (sym (c .before .before .before .before .before .is-numeric2 .ensures (W .text)) ∙ c .before .before .before .before .if2 .left) (c .before .before .fail-plain .ensures))
+    passed _ (sym (c .before .before .before .before .before .before .before .resolves-within .ensures W) ∙ c .before .before .before .before .before .before .if1 .taken)
+    (refused _ (sym (c .before .before .before .before .before .is-numeric .ensures (W .text)) ∙ c .before .before .before .before .if2 .left) (c .before .before .fail-plain .ensures))
 
 fail-plain-requires-2 : tie.Need-fail-plain-requires-2
 fail-plain-requires-2 c κs = search needs
@@ -45,15 +41,14 @@ same-length-2 c = search needs
 
 returns-3 : tie.Need-returns-3
 unfolding cast-of
-returns-3 c = λ W. refused _ (sym (c .before .before .before .before .before .is-numeric .ensures (W .text) ∙ ap is-numeric (c .before .before .before .before .before .before .resolve .ensures .is (W .text) (W .Γ .alias) (W .alias))) ∙ c .before .before .before .before .if1 .left) (c .before .before .fail-plain2 .ensures)
+returns-3 c = λ W. refused _ (sym (c .before .before .before .before .before .resolves-within .ensures W) ∙ c .before .before .before .before .if1 .left) (c .before .before .fail-plain2 .ensures)
 
 pub cast-rule-spec : {M : Type 1} → statement M
 cast-rule-spec =
     tie.close
     (tie.spec
-    resolve-requires
+    resolves-within-requires
     is-numeric-requires
-    is-numeric-requires-2
     returns
     fail-plain-requires
     same-length

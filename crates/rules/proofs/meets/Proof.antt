@@ -1,84 +1,80 @@
 -- `rules::meets` meets its contract: the class's row of the definition. Assumes nothing.
-use mathlib.Core.Path.{refl, sym, _∙_}
+use Prim.Native.Nat.{ℕ}
+use native.Mathlib.Omega.{arith}
+use mathlib.Core.Path.{_≡_, sym, ap, _∙_}
+use mathlib.Core.Bool.{_&&_}
 use borrow.Author.Needs.{needs}
-use Rattle.lustre.specs.Types.{is-bool, is-integer, is-numeric}
-use Rattle.rules.proofs.Classes.{meets-logic, meets-equality, meets-bitwise, meets-numbers}
+use lib.Dec.{leb}
+use Rattle.lustre.specs.Resolve.{compatible}
+use Rattle.types.specs.Scope.{kind-of}
+use Rattle.rules.proofs.Laws.{apart}
+use Rattle.rules.proofs.BasicKinds.{one-kind, one-truth}
+use Rattle.rules.proofs.Classes.{meets-logic, meets-equality, meets-bitwise, meets-numbers, meets-not}
 use Rattle.rules.proofs.meets.Statement.{statement}
 use Rattle.rules.proofs.meets.Tie as tie
 
-is-bool-requires : tie.Need-is-bool-requires
-is-bool-requires c κs = search needs
-
-is-bool-requires-2 : tie.Need-is-bool-requires-2
-is-bool-requires-2 c κs = search needs
+compatible-requires : tie.Need-compatible-requires
+compatible-requires c κs = search needs
 
 returns : tie.Need-returns
-returns c = λ ρ inj k e. rw (meets-logic _ _ k e (c .before .before .before .if1 .taken), ← c .before .before .is-bool .ensures ρ, c .before .if2 .taken) (c .is-bool2 .ensures ρ)
+unfolding compatible
+returns c = λ k e W. c .compatible .ensures (W .text) (apart W) (W .Γ .alias) (W .alias) ∙ sym (meets-equality _ _ k e (c .before .if1 .taken))
+
+basic-kind-requires : tie.Need-basic-kind-requires
+basic-kind-requires c κs = search needs
+
+basic-kind-requires-2 : tie.Need-basic-kind-requires-2
+basic-kind-requires-2 c κs = search needs
 
 returns-2 : tie.Need-returns-2
-returns-2 c = λ ρ inj k e. rw (meets-logic _ _ k e (c .before .before .if1 .taken), ← c .before .is-bool .ensures ρ, c .if2 .left) refl
+returns-2 c =
+    λ k e W.
+    let x = c .before .before .basic-kind .ensures .is (W .text) (W .Γ .alias) (W .alias) in
+    let y = c .before .basic-kind2 .ensures .is (W .text) (W .Γ .alias) (W .alias) in
+    sym (meets-not _ _ (λ z. c .if2 .taken (x ∙ z ∙ sym y)) k (λ z. c .before .before .before .if1 .left (sym e ∙ z)))
 
-same-requires : tie.Need-same-requires
-same-requires c κs = search needs
+is-between-requires : tie.Need-is-between-requires
+is-between-requires c κs = search needs
 
 returns-3 : tie.Need-returns-3
-returns-3 c = λ ρ inj k e. c .same .ensures ρ inj ∙ sym (meets-equality _ _ k e (c .before .if3 .taken))
+returns-3 c =
+    λ k e W.
+    let x = c .before .before .before .before .basic-kind .ensures .is (W .text) (W .Γ .alias) (W .alias) in
+    let y = c .before .before .before .basic-kind2 .ensures .is (W .text) (W .Γ .alias) (W .alias) in
+    c .is-between .ensures ∙ ap (λ (i : ℕ). leb 20 i && leb i 20) x ∙ sym (meets-logic _ _ k e (c .before .if3 .taken) ∙ one-truth _ _ (sym x ∙ c .before .before .if2 .left ∙ y))
 
-is-integer-requires : tie.Need-is-integer-requires
-is-integer-requires c κs = search needs
-
-is-integer-requires-2 : tie.Need-is-integer-requires-2
-is-integer-requires-2 c κs = search needs
-
-same-requires-2 : tie.Need-same-requires-2
-same-requires-2 c κs = search needs
+is-between-requires-2 : tie.Need-is-between-requires-2
+is-between-requires-2 c κs = search needs
 
 returns-4 : tie.Need-returns-4
-returns-4 c = λ ρ inj k e. rw (meets-bitwise _ _ k e (c .before .before .before .before .before .if4 .taken), ← c .before .before .before .before .is-integer .ensures ρ, c .before .before .before .if5 .taken, ← c .before .before .is-integer2 .ensures ρ, c .before .if6 .taken) (c .same2 .ensures ρ inj)
+returns-4 c =
+    λ k e W.
+    let x = c .before .before .before .before .before .basic-kind .ensures .is (W .text) (W .Γ .alias) (W .alias) in
+    let y = c .before .before .before .before .basic-kind2 .ensures .is (W .text) (W .Γ .alias) (W .alias) in
+    c .is-between2 .ensures ∙ ap (λ (i : ℕ). leb 21 i && leb i 28) x ∙ sym (meets-bitwise _ _ k e (c .before .if4 .taken) ∙ one-kind 21 28 (omega arith) _ _ (sym x ∙ c .before .before .before .if2 .left ∙ y))
+
+is-between-requires-3 : tie.Need-is-between-requires-3
+is-between-requires-3 c κs = search needs
 
 returns-5 : tie.Need-returns-5
-returns-5 c = λ ρ inj k e. rw (meets-bitwise _ _ k e (c .before .before .before .before .if4 .taken), ← c .before .before .before .is-integer .ensures ρ, c .before .before .if5 .taken, ← c .before .is-integer2 .ensures ρ, c .if6 .left) refl
-
-returns-6 : tie.Need-returns-6
-returns-6 c = λ ρ inj k e. rw (meets-bitwise _ _ k e (c .before .before .if4 .taken), ← c .before .is-integer .ensures ρ, c .if5 .left) refl
-
-is-numeric-requires : tie.Need-is-numeric-requires
-is-numeric-requires c κs = search needs
-
-is-numeric-requires-2 : tie.Need-is-numeric-requires-2
-is-numeric-requires-2 c κs = search needs
-
-same-requires-3 : tie.Need-same-requires-3
-same-requires-3 c κs = search needs
-
-returns-7 : tie.Need-returns-7
-returns-7 c = λ ρ inj k e. rw (meets-numbers _ _ k e (c .before .before .before .before .before .before .before .if1 .left) (c .before .before .before .before .before .before .if3 .left) (c .before .before .before .before .before .if4 .left), ← c .before .before .before .before .is-numeric .ensures ρ, c .before .before .before .if7 .taken, ← c .before .before .is-numeric2 .ensures ρ, c .before .if8 .taken) (c .same3 .ensures ρ inj)
-
-returns-8 : tie.Need-returns-8
-returns-8 c = λ ρ inj k e. rw (meets-numbers _ _ k e (c .before .before .before .before .before .before .if1 .left) (c .before .before .before .before .before .if3 .left) (c .before .before .before .before .if4 .left), ← c .before .before .before .is-numeric .ensures ρ, c .before .before .if7 .taken, ← c .before .is-numeric2 .ensures ρ, c .if8 .left) refl
-
-returns-9 : tie.Need-returns-9
-returns-9 c = λ ρ inj k e. rw (meets-numbers _ _ k e (c .before .before .before .before .if1 .left) (c .before .before .before .if3 .left) (c .before .before .if4 .left), ← c .before .is-numeric .ensures ρ, c .if7 .left) refl
+returns-5 c =
+    λ k e W.
+    let x = c .before .before .before .before .before .basic-kind .ensures .is (W .text) (W .Γ .alias) (W .alias) in
+    let y = c .before .before .before .before .basic-kind2 .ensures .is (W .text) (W .Γ .alias) (W .alias) in
+    c .is-between3 .ensures ∙ ap (λ (i : ℕ). leb 21 i && leb i 30) x ∙ sym (meets-numbers _ _ k e (c .before .before .if3 .left) (c .before .before .before .before .before .before .if1 .left) (c .before .if4 .left) ∙ one-kind 21 30 (omega arith) _ _ (sym x ∙ c .before .before .before .if2 .left ∙ y))
 
 pub meets-spec : {M : Type 1} → statement M
 meets-spec =
     tie.close
     (tie.spec
-    is-bool-requires
-    is-bool-requires-2
+    compatible-requires
     returns
+    basic-kind-requires
+    basic-kind-requires-2
     returns-2
-    same-requires
+    is-between-requires
     returns-3
-    is-integer-requires
-    is-integer-requires-2
-    same-requires-2
+    is-between-requires-2
     returns-4
-    returns-5
-    returns-6
-    is-numeric-requires
-    is-numeric-requires-2
-    same-requires-3
-    returns-7
-    returns-8
-    returns-9)
+    is-between-requires-3
+    returns-5)

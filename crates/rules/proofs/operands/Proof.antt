@@ -1,20 +1,14 @@
 -- `rules::operands` meets its contract. Assumes nothing.
 use native.Mathlib.Omega.{arith}
-use mathlib.Core.Path.{refl, sym, ap, ap₂, _∙_}
+use mathlib.Core.Path.{refl, sym, ap, _∙_}
 use borrow.Author.Needs.{needs}
 use Rattle.lustre.specs.Line.{return}
-use Rattle.lustre.specs.Infer.{operands, meets}
+use Rattle.lustre.specs.Infer.{operands}
 use Rattle.types.specs.Value.{bottom}
-use Rattle.rules.proofs.Laws.{apart, returned, refused, passed}
+use Rattle.rules.proofs.Laws.{returned, refused, passed}
 use Rattle.rules.proofs.Classes.{fault-is, gives-bool, gives-left}
 use Rattle.rules.proofs.operands.Statement.{statement}
 use Rattle.rules.proofs.operands.Tie as tie
-
-resolve-requires : tie.Need-resolve-requires
-resolve-requires c κs = search needs
-
-resolve-requires-2 : tie.Need-resolve-requires-2
-resolve-requires-2 c κs = search needs
 
 meets-requires : tie.Need-meets-requires
 meets-requires c κs = search needs
@@ -26,7 +20,7 @@ returns : tie.Need-returns
 unfolding operands bottom
 returns c =
     λ k e W.
-    let m = c .before .before .before .meets .ensures (W .text) (apart W) k e ∙ ap₂ (meets k) (c .before .before .before .before .before .resolve .ensures .is (W .text) (W .Γ .alias) (W .alias)) (c .before .before .before .before .resolve2 .ensures .is (W .text) (W .Γ .alias) (W .alias)) in
+    let m = c .before .before .before .meets .ensures k e W in
     let b = c .bottom-of .ensures in
     passed _ (sym m ∙ c .before .before .if1 .taken)
     (returned _ (omega (arith, b .flat)) (λ h. omega (arith, b .name)) refl (ap return (gives-bool _ k e (c .before .if2 .taken) ∙ sym (b .is (W .text)))))
@@ -35,8 +29,8 @@ returns-2 : tie.Need-returns-2
 unfolding operands
 returns-2 c =
     λ k e W.
-    let m = c .before .before .meets .ensures (W .text) (apart W) k e ∙ ap₂ (meets k) (c .before .before .before .before .resolve .ensures .is (W .text) (W .Γ .alias) (W .alias)) (c .before .before .before .resolve2 .ensures .is (W .text) (W .Γ .alias) (W .alias)) in
-    passed _ (sym m ∙ c .before .if1 .taken) (returned _ (omega arith) (c .before .before .before .before .before .before .before .before .before .pre .2) refl (ap return (gives-left _ k e (c .if2 .left))))
+    let m = c .before .before .meets .ensures k e W in
+    passed _ (sym m ∙ c .before .if1 .taken) (returned _ (omega arith) (c .before .before .before .before .before .before .before .pre .2) refl (ap return (gives-left _ k e (c .if2 .left))))
 
 add-fail-plain : tie.Need-add-fail-plain
 add-fail-plain c = search needs
@@ -51,15 +45,13 @@ returns-3 : tie.Need-returns-3
 unfolding operands
 returns-3 c =
     λ k e W.
-    let m = c .before .before .before .before .before .meets .ensures (W .text) (apart W) k e ∙ ap₂ (meets k) (c .before .before .before .before .before .before .before .resolve .ensures .is (W .text) (W .Γ .alias) (W .alias)) (c .before .before .before .before .before .before .resolve2 .ensures .is (W .text) (W .Γ .alias) (W .alias)) in
+    let m = c .before .before .before .before .before .meets .ensures k e W in
     rw (fault-is k e) (refused _ (sym m ∙ c .before .before .before .before .if1 .left) (c .before .before .fail-plain .ensures))
 
 pub operands-spec : {M : Type 1} → statement M
 operands-spec =
     tie.close
     (tie.spec
-    resolve-requires
-    resolve-requires-2
     meets-requires
     bottom-of-requires
     returns
