@@ -182,14 +182,14 @@ def deepest(levels=60):
     yield "array", one([INT32], [(32, 1)] * n + [INT32], [(74, 1)] * n + [(44, A)])
 
 
-def iterators():
-    """Iterators nested to 58, 59 and 60 levels, with one to three arrays, filling up to 4,096 records."""
+def iterators(most=4096):
+    """Iterators nested to 58, 59 and 60 levels, with one to three arrays, filling up to so many records."""
     labels = ("map", "fold", "fold seed", "fold with seed", "map of three", "map of three, last")
     for levels, label in itertools.product((58, 59, 60), labels):
         before, after, ty = DEEP[label]
         for leaf in (C, b"z", B):
             rhs = nest(before, after, [(44, leaf)], levels)
-            room = 4096 - len(among([], ty))
+            room = most - len(among([], ty))
             yield "%s, %d levels of %s" % (label, levels, leaf.decode()), among([rhs] * (room // (len(rhs) + 7)), ty)
 
 
@@ -225,6 +225,12 @@ def limits():
     yield "types of 68 levels", project([[(4, x)] + [(32, 1)] * 67 + [(33, y)] for x, y in zip(xs[:50], xs[1:51])])
     yield "510 constants", project([], [[(9, x), INT32, (44, y)] for x, y in zip(xs, xs[1:] + xs[:1])])
     yield "500 probes", project(nodes=[node(b"n", 10, probes=xs[:500])])
+
+
+def fitting():
+    """Models like those above whose reports have more than 1,024 lines, but with fewer, so that all of them are seen."""
+    yield "767 outputs of 510 names, 1,024 lines", project(nodes=[node(b"n", 11, [], [port(x, INT32) for x in (many(510) * 2)[:767]], [], [])])
+    yield from iterators(2048)
 
 
 def merged(models, most=4096):

@@ -8,23 +8,21 @@ use cases::read_part;
 // Room for a file of a few bytes more than any that is not refusal 1.
 const FILE: usize = 60000;
 
-// The most work words and lines that a model is lent, and the words of these lines.
+// The most work words and lines that a model is lent.
 const WORK: usize = 65536;
 
-const LINES: usize = 4096;
+const LINES: usize = 1024;
 
-const LINE_WORDS: usize = 24576;
-
-// Room for what is printed: a header of at most 57 bytes and 4,096 lines of at most 171.
-const OUT: usize = 700473;
+// Room for what is printed: a header of at most 57 bytes and 1,024 lines of at most 171.
+const OUT: usize = 175161;
 
 // The most models that are read.
 const MOST: u64 = 100000000;
 
-// Makes the call on a file with these buffers lent, and prints what is said; false where it can't be written.
-fn print_answer(file: &[u8], work: &mut [u64], lines: &mut [u64], out: &mut [u8]) -> bool {
-    let a = response::answer_to(file, work, lines);
-    let n = response::render(out, format::text_in(file), lines, a);
+// Makes the call on a file with this work memory and room for lines lent, and prints what is said; false where it can't be written.
+fn print_answer(file: &[u8], work: &mut [u64], room: usize, out: &mut [u8]) -> bool {
+    let r = response::answer_to(file, work, room);
+    let n = response::render(out, format::text_in(file), r);
     if !print_part(out, n) {
         return false;
     }
@@ -32,7 +30,7 @@ fn print_answer(file: &[u8], work: &mut [u64], lines: &mut [u64], out: &mut [u8]
 }
 
 // Reads the next model and prints what is said of it; false where there is none or it does not fit.
-fn model(file: &mut [u8], work: &mut [u64], lines: &mut [u64], out: &mut [u8]) -> bool {
+fn model(file: &mut [u8], work: &mut [u64], out: &mut [u8]) -> bool {
     let mut head = [0u8; 12];
     if !read_part(&mut head, 12) {
         return false;
@@ -49,23 +47,17 @@ fn model(file: &mut [u8], work: &mut [u64], lines: &mut [u64], out: &mut [u8]) -
     if work_count > work.len() {
         return false;
     }
-    if room > lines.len() / 6 {
+    if room > LINES {
         return false;
     }
-    let words = 6 * room;
-    print_answer(
-        &file[..size],
-        &mut work[..work_count],
-        &mut lines[..words],
-        out,
-    )
+    print_answer(&file[..size], &mut work[..work_count], room, out)
 }
 
 // Reads models until there are no more.
-fn run(file: &mut [u8], work: &mut [u64], lines: &mut [u64], out: &mut [u8]) {
+fn run(file: &mut [u8], work: &mut [u64], out: &mut [u8]) {
     let mut left = MOST;
     while left > 0 {
-        if !model(file, work, lines, out) {
+        if !model(file, work, out) {
             return;
         }
         left -= 1;
@@ -75,7 +67,6 @@ fn run(file: &mut [u8], work: &mut [u64], lines: &mut [u64], out: &mut [u8]) {
 fn main() {
     let mut file = [0u8; FILE];
     let mut work = [0u64; WORK];
-    let mut lines = [0u64; LINE_WORDS];
     let mut out = [0u8; OUT];
-    run(&mut file, &mut work, &mut lines, &mut out);
+    run(&mut file, &mut work, &mut out);
 }

@@ -1,9 +1,14 @@
-// What the test programs share: numbers out of bytes, reading and printing a part of a buffer, the label of a case, and buffers that are
-// filled with marks, none of them zero, so that what a call leaves alone is seen. No function has a `requires`.
+// What the test programs share: numbers out of bytes, reading and printing a part of a buffer, the label of a case, lines compared with
+// those that are due, and buffers that are filled with marks, none of them zero, so that what a call leaves alone is seen. No function has a
+// `requires`.
+use lustre::Line;
 ghost use Prim.Native.Nat.{_<_};
 
 // The mark at place 0; those behind it are larger.
 const MARK: u64 = 6148914691236517205;
+
+// The lines of a report by value.
+const LINES: usize = 1024;
 
 // A byte as a number.
 fn wide(b: u8) -> u64
@@ -108,17 +113,73 @@ pub fn is_zero(words: &[u64]) -> bool {
     true
 }
 
-// Says whether the first n words are those of these bytes, eight bytes a word.
-pub fn same_words(words: &[u64], n: usize, bytes: &[u8]) -> bool {
-    if n > words.len() {
+// Says whether a line is that of the first 48 of these bytes, eight bytes a field.
+fn is_line(l: Line, bytes: &[u8]) -> bool {
+    if l.code != little(bytes, 0, 8) {
         return false;
     }
-    if n > bytes.len() / 8 {
+    if l.place != little(bytes, 8, 8) {
+        return false;
+    }
+    if l.number != little(bytes, 16, 8) {
+        return false;
+    }
+    if l.equation != little(bytes, 24, 8) {
+        return false;
+    }
+    if l.step != little(bytes, 32, 8) {
+        return false;
+    }
+    l.name == little(bytes, 40, 8)
+}
+
+// Says whether all fields of a line are 0.
+fn is_blank(l: Line) -> bool {
+    if l.code != 0 {
+        return false;
+    }
+    if l.place != 0 {
+        return false;
+    }
+    if l.number != 0 {
+        return false;
+    }
+    if l.equation != 0 {
+        return false;
+    }
+    if l.step != 0 {
+        return false;
+    }
+    l.name == 0
+}
+
+// Says whether the first n lines are those of these bytes.
+fn are_lines(lines: [Line; LINES], n: usize, bytes: &[u8]) -> bool {
+    if n > LINES {
+        return false;
+    }
+    if n > bytes.len() / 48 {
         return false;
     }
     let mut i = 0;
     while i < n {
-        if words[i] != little(bytes, 8 * i, 8) {
+        let at = 48 * i;
+        if !is_line(lines[i], &bytes[at..]) {
+            return false;
+        }
+        i += 1;
+    }
+    true
+}
+
+// Says whether the first n lines are those of these bytes, and the others blank.
+pub fn same_lines(lines: [Line; LINES], n: usize, bytes: &[u8]) -> bool {
+    if !are_lines(lines, n, bytes) {
+        return false;
+    }
+    let mut i = n;
+    while i < LINES {
+        if !is_blank(lines[i]) {
             return false;
         }
         i += 1;

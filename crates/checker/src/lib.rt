@@ -9,10 +9,10 @@ use staging::answer_of;
 use staging::first_batch;
 use staging::next_batch;
 use stored::fill;
+ghost use Prim.Native.Nat.{min};
 ghost use mathlib.Core.Path.{_≡_};
-ghost use lib.ListN.{replicate};
 ghost use Rattle.staging.specs.Batches.{blank};
-ghost use Rattle.checker.specs.Call.{Checked};
+ghost use Rattle.checker.specs.Call.{Checked, All-checked};
 
 // The report on the records that a reader holds: batch after batch is stored, until none is left.
 pub fn check_reader<'a>(r: Reader<'a>, text: &[u8], work: &mut [u64], lines: &mut [Line]) -> Answer
@@ -39,7 +39,7 @@ pub fn check_project(
     check_reader(reader::new(kinds, words), text, work, lines)
 }
 
-// An answer with its lines; those past the answer's count are blank.
+// An answer with its lines; those behind the lines that were stored are blank.
 pub struct Report {
     pub answer: Answer,
     pub lines: [Line; 1024],
@@ -59,12 +59,23 @@ fn blank() -> Line
     }
 }
 
-// The report by value, with room for 1,024 lines, the number that document 01's program lends.
-pub fn check_all(kinds: &[u8], words: &[u64], text: &[u8], work: &mut [u64]) -> Report
-    ensures { λ r. ⌜ Checked (now (kinds .entry)) (now (words .entry)) (now (text .entry)) (now (work .entry)) (replicate 1024 blank) (r .answer) (now (work .exit)) (r .lines) ⌝ }
+// As many lines as are asked for, 1,024 at most.
+fn within(room: usize) -> usize
+    ensures { λ r. ⌜ r ≡ min room 1024 ⌝ }
+{
+    if room < 1024 {
+        return room;
+    }
+    1024
+}
+
+// The report by value, with room for so many lines; past 1,024, the number that document 01's program lends, it counts as 1,024.
+pub fn check_all(kinds: &[u8], words: &[u64], text: &[u8], work: &mut [u64], room: usize) -> Report
+    ensures { λ r. ⌜ All-checked (now (kinds .entry)) (now (words .entry)) (now (text .entry)) (now (work .entry)) room r (now (work .exit)) ⌝ }
 {
     let mut lines = [blank(); 1024];
-    let a = check_project(kinds, words, text, work, &mut lines);
+    let n = within(room);
+    let a = check_project(kinds, words, text, work, &mut lines[..n]);
     Report {
         answer: a,
         lines: lines,

@@ -3,17 +3,15 @@
 // tests/replay/make makes that file and says what it holds. It stops at the first model that does not fit its buffers.
 use cases::little;
 use cases::read_part;
-use lustre::Answer;
+use checker::Report;
 
 // The longest file that is not refusal 1: 8 bytes, 9 for each of 4,096 records, and 16,384 of text.
 const FILE: usize = 53256;
 
-// What document 01's program lends: work words, lines, and the words and bytes of these lines.
+// What document 01's program lends: work words, lines, and the bytes of these lines.
 const WORK: usize = 4096;
 
 const LINES: usize = 1024;
-
-const LINE_WORDS: usize = 6144;
 
 const LINE_BYTES: usize = 49152;
 
@@ -27,11 +25,9 @@ enum Outcome {
     Agrees,
 }
 
-// Says whether a report has these counts and left these lines, what is behind them as it was, and zero work memory.
-fn holds(a: Answer, count: usize, followed: u64, due: &[u8], work: &[u64], lines: &[u64]) -> bool {
-    if count > LINES {
-        return false;
-    }
+// Says whether a report has these counts and left these lines, blank lines behind them, and zero work memory.
+fn holds(r: Report, count: usize, followed: u64, due: &[u8], work: &[u64]) -> bool {
+    let a = r.answer;
     let n = lustre::as_numbers(a);
     if n.refusal != 0 {
         return false;
@@ -42,10 +38,8 @@ fn holds(a: Answer, count: usize, followed: u64, due: &[u8], work: &[u64], lines
     if n.second != followed {
         return false;
     }
-    if !cases::same_words(lines, 6 * count, due) {
-        return false;
-    }
-    if !cases::is_filled(lines, 6 * count) {
+    let lines = r.lines;
+    if !cases::same_lines(lines, count, due) {
         return false;
     }
     cases::is_zero(work)
@@ -57,11 +51,9 @@ fn agrees(file: &[u8], size: usize, count: usize, followed: u64, due: &[u8]) -> 
         return false;
     }
     let mut work = [0u64; WORK];
-    let mut lines = [0u64; LINE_WORDS];
     cases::fill(&mut work);
-    cases::fill(&mut lines);
-    let a = response::answer_to(&file[..size], &mut work, &mut lines);
-    holds(a, count, followed, due, &work, &lines)
+    let r = response::answer_to(&file[..size], &mut work, LINES);
+    holds(r, count, followed, due, &work)
 }
 
 // Reads the next model and what is due, and runs it.

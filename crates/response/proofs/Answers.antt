@@ -1,25 +1,27 @@
--- Laws of the answer to a file: what is printed and the status depend on the report alone, where the lines that the program lends hold it.
+-- Laws of the report on a file: what is printed and the status depend on the report alone, where the lines that are lent hold it.
 -- Assumes nothing.
-use Prim.Native.Nat.{ℕ, zero, suc, _+_, _*_, _≤_, min}
+use Prim.Native.Nat.{ℕ, _≤_, min}
 use native.Mathlib.Omega.{arith}
 use mathlib.Core.Path.{_≡_, refl, sym, subst, ap, _∙_}
 use mathlib.Core.Bool.{Bool, true, false}
-use mathlib.Core.List.{List, [], _∷_, _++_, map, flatMap, append-nil}
+use mathlib.Core.List.{List, [], _∷_, _++_, map, append-nil}
 use mathlib.Core.Option.{Option, none, some}
 use borrow.Author.Tests.{leb-true, eq-eqb, ne-eqb, eqb-true, eqb-false}
 use lib.Dec.{eqb, leb}
-use lib.ListN.{length, take, drop, length-map, length-append, length-drop}
-use lib.Seq.{take-all}
+use lib.ListN.{length, take, drop, replicate, length-map, length-replicate}
+use lib.Seq.{take-all, take-length, take-take, take-append-seam}
 use Rattle.lustre.specs.Name.{if_then_else_}
 use Rattle.lustre.specs.Names.{bad-name, names-of}
 use Rattle.lustre.specs.Records.{bad-record}
 use Rattle.lustre.specs.Project.{Project}
 use Rattle.lustre.specs.Report.{report, followed}
-use Rattle.lustre.specs.Answer.{refusal-of, first-of, bad-sizes, short-work, no-project, spelled, too-deep-at, project-of, refuse, lowest, reported, answer, writes, stored, stored-report}
+use Rattle.lustre.specs.Answer.{refusal-of, first-of, bad-sizes, short-work, no-project, spelled, too-deep-at, project-of, refuse, lowest, reported, answer, writes, stored, stored-report, over, lines-after}
 use Rattle.lustre.specs.declared.Line.{Line}
 use Rattle.lustre.specs.declared.Answer.{Answer}
-use Rattle.lustre.specs.declared.Answer.the-variants.{Report, Sizes, ShortWork, BadName, BadRecord, NoProject, TooDeep, MoreLines}
-use Rattle.lines.specs.Lines.{words, line-in, room}
+use Rattle.lustre.specs.declared.Answer.the-variants.{Report as Reporting, Sizes, ShortWork, BadName, BadRecord, NoProject, TooDeep, MoreLines}
+use Rattle.staging.specs.Batches.{blank}
+use Rattle.checker.specs.Call.{All-checked}
+use Rattle.checker.specs.declared.Report.{Report}
 use Rattle.format.specs.File.{Model, parse, kinds-of, text-of, Decoded}
 use Rattle.format.specs.Output.{line, header, line-count, output-lines, joined, printed, output-of}
 use Rattle.format.specs.Buffers.{Rendered, Filled}
@@ -28,9 +30,8 @@ use Rattle.format.specs.declared.File.the-variants.{Wrong, Parts}
 use Rattle.format.proofs.Fill.{output-whole}
 use Rattle.format.proofs.Room.{header-short, output-always, names-short}
 use Rattle.format.proofs.Callers.{decoded-wrong, decoded-parts}
-use Rattle.project.specs.Call.{over-words, buffer-after, Called}
 use Rattle.response.specs.declared.Response.{Response}
-use Rattle.response.specs.Response.{lines-in, lines-of, any-error, status-of, lines-to, status-to, Answered, Responded}
+use Rattle.response.specs.Response.{wrong-report, any-error, status-of, lines-to, status-to, Answered, Responded}
 
 -- a refusal that does not apply
 passed : (o : Option ℕ) (f : ℕ → Answer) (rest : Answer) → ((at : ℕ) → refusal-of (f at) ≡ 0 → ⊥) → refusal-of (refuse o f rest) ≡ 0 → (o ≡ none) × (refuse o f rest ≡ rest)
@@ -61,7 +62,7 @@ reported-fits : (room : ℕ) (P : Project) → refusal-of (reported room P) ≡ 
 unfolding reported
 reported-fits room P = go (leb (length (report P)) room) refl
   where
-    go : (t : Bool) → leb (length (report P)) room ≡ t → refusal-of (if leb (length (report P)) room then Report (length (report P)) (followed P) else MoreLines (min (length (report P)) 18_446_744_073_709_551_615)) ≡ 0 → (first-of (if leb (length (report P)) room then Report (length (report P)) (followed P) else MoreLines (min (length (report P)) 18_446_744_073_709_551_615)) ≡ length (report P)) × (length (report P) ≤ room)
+    go : (t : Bool) → leb (length (report P)) room ≡ t → refusal-of (if leb (length (report P)) room then Reporting (length (report P)) (followed P) else MoreLines (min (length (report P)) 18_446_744_073_709_551_615)) ≡ 0 → (first-of (if leb (length (report P)) room then Reporting (length (report P)) (followed P) else MoreLines (min (length (report P)) 18_446_744_073_709_551_615)) ≡ length (report P)) × (length (report P) ≤ room)
     go true e h = (simp e, leb-true (length (report P)) room e)
     go false e h = absurd (let z : _≡_ {A = ℕ} 7 0 = rw e at h in omega arith)
 
@@ -86,27 +87,10 @@ is-reported kinds ws text work room a e z =
       fits = omega (arith, f .1);
     }
 
--- the lines of a buffer that begins with the words of lines
-take-lines : (n : ℕ) (ls : List Line) (rest : List ℕ) → length ls ≤ n → take (length ls) (lines-in n (flatMap words ls ++ rest)) ≡ ls
-unfolding lines-in flatMap words line-in
-take-lines n [] rest h = refl
-take-lines zero (l ∷ ls) rest h = absurd (omega arith)
-take-lines (suc n) (l ∷ ls) rest h = ap (λ (xs : List Line). l ∷ xs) (take-lines n ls rest (omega arith))
-
--- six words a line
-length-flat : (ls : List Line) → length (flatMap words ls) ≡ length ls * 6
-unfolding flatMap words
-length-flat [] = refl
-length-flat (l ∷ ls) = let e = length-flat ls in omega arith
-
--- a buffer with room for the lines holds them
-over-holds : (ls : List Line) (lent : List ℕ) → length ls ≤ room lent → take (length ls) (lines-of (over-words ls lent)) ≡ ls
-unfolding over-words
-over-holds ls lent h =
-    let all : take (room lent) ls ≡ ls = take-all (room lent) ls h in
-    let long : length (flatMap words ls ++ drop (length ls * 6) lent) ≡ length lent = simp (length-append, length-drop, length-flat) (omega arith) in
-    let same : flatMap words (take (room lent) ls) ++ drop (length (take (room lent) ls) * 6) lent ≡ flatMap words ls ++ drop (length ls * 6) lent = ap (λ (xs : List Line). flatMap words xs ++ drop (length xs * 6) lent) all in
-    ap (λ (o : List ℕ). take (length ls) (lines-of o)) same ∙ take-lines (room (flatMap words ls ++ drop (length ls * 6) lent)) ls (drop (length ls * 6) lent) (omega arith)
+-- lines that have room are held
+over-holds : (ls lent : List Line) → length ls ≤ length lent → take (length ls) (over ls lent) ≡ ls
+unfolding over
+over-holds ls lent h = ap (λ (xs : List Line). take (length ls) (xs ++ drop (length ls) lent)) (take-all (length lent) ls h) ∙ take-append-seam ls (drop (length ls) lent)
 
 -- a report is an answer after which lines are written
 report-writes : (a : Answer) → refusal-of a ≡ 0 → writes a ≡ true
@@ -114,45 +98,50 @@ unfolding writes
 report-writes a z = ap (λ (b : Bool). elim b [ true ↦ true | false ↦ eqb (refusal-of a) 7 ]) (eq-eqb (refusal-of a) 0 z)
 
 -- those that fit
-report-over : (kinds ws text : List ℕ) (work : ℕ) (lent : List ℕ) (a : Answer) → a ≡ answer kinds ws text work (room lent) → refusal-of a ≡ 0 → buffer-after kinds ws text work lent ≡ over-words (stored-report kinds ws text) lent
-unfolding buffer-after
+report-over : (kinds ws text : List ℕ) (work : ℕ) (lent : List Line) (a : Answer) → a ≡ answer kinds ws text work (length lent) → refusal-of a ≡ 0 → lines-after kinds ws text work lent ≡ over (stored-report kinds ws text) lent
+unfolding lines-after
 report-over kinds ws text work lent a e z =
-    ap (λ (b : Bool). elim b [ true ↦ over-words (stored-report kinds ws text) lent | false ↦ lent ])
-    (report-writes (answer kinds ws text work (room lent)) (ap refusal-of (sym e) ∙ z))
+    ap (λ (b : Bool). elim b [ true ↦ over (stored-report kinds ws text) lent | false ↦ lent ])
+    (report-writes (answer kinds ws text work (length lent)) (ap refusal-of (sym e) ∙ z))
 
 -- no lines are counted behind a refusal
 none-counted : (a : Answer) → (refusal-of a ≡ 0 → ⊥) → line-count a ≡ 0
 unfolding line-count
 none-counted a h = simp (ne-eqb (refusal-of a) 0 h)
 
+-- as many lines as are lent
+abbrev lent : ℕ → List Line
+lent room = replicate (min room 1024) blank
+
 -- the lines that are printed after the call are those of the report
-pub called-lines : {kinds ws text work lent work′ lent′ : List ℕ} {a : Answer} → Called kinds ws text work lent a work′ lent′ → take (line-count a) (lines-of lent′) ≡ take (line-count a) (stored-report kinds ws text)
-called-lines {kinds} {ws} {text} {work} {lent} {work′} {lent′} {a} c = go (eqb (refusal-of a) 0) refl
+pub called-lines : {kinds ws text work work′ : List ℕ} {room : ℕ} {r : Report} → All-checked kinds ws text work room r work′ → take (line-count (r .answer)) (r .lines) ≡ take (line-count (r .answer)) (stored-report kinds ws text)
+called-lines {kinds} {ws} {text} {work} {work′} {room} {r} c = go (eqb (refusal-of (r .answer)) 0) refl
   where
-    go : (t : Bool) → eqb (refusal-of a) 0 ≡ t → take (line-count a) (lines-of lent′) ≡ take (line-count a) (stored-report kinds ws text)
+    go : (t : Bool) → eqb (refusal-of (r .answer)) 0 ≡ t → take (line-count (r .answer)) (r .lines) ≡ take (line-count (r .answer)) (stored-report kinds ws text)
     go true t =
-        let z : refusal-of a ≡ 0 = eqb-true (refusal-of a) 0 t in
-        let r = is-reported kinds ws text (length work) (room lent) a (c .answered) z in
+        let z : refusal-of (r .answer) ≡ 0 = eqb-true (refusal-of (r .answer)) 0 t in
+        let s = is-reported kinds ws text (length work) (length (lent room)) (r .answer) (c .checked .answered) z in
         let ls : List Line = stored-report kinds ws text in
-        let e : lent′ ≡ over-words ls lent = c .lines ∙ report-over kinds ws text (length work) lent a (c .answered) z in
-        ap (λ (n : ℕ). take n (lines-of lent′)) (r .count)
-        ∙ ap (λ (o : List ℕ). take (length ls) (lines-of o)) e
-        ∙ over-holds ls lent (r .fits)
-        ∙ sym (take-all (length ls) ls (omega arith))
-        ∙ ap (λ (n : ℕ). take n ls) (sym (r .count))
+        let e : take (min room 1024) (r .lines) ≡ over ls (lent room) = c .checked .lines ∙ report-over kinds ws text (length work) (lent room) (r .answer) (c .checked .answered) z in
+        ap (λ (n : ℕ). take n (r .lines)) (s .count)
+        ∙ sym (take-take (length ls) (min room 1024) (r .lines) (omega (arith, s .fits, length-replicate (min room 1024) blank)))
+        ∙ ap (λ (xs : List Line). take (length ls) xs) e
+        ∙ over-holds ls (lent room) (s .fits)
+        ∙ sym (take-length ls)
+        ∙ ap (λ (n : ℕ). take n ls) (sym (s .count))
     go false t =
-        let h : refusal-of a ≡ 0 → ⊥ = eqb-false (refusal-of a) 0 t in
-        ap (λ (n : ℕ). take n (lines-of lent′)) (none-counted a h) ∙ ap (λ (n : ℕ). take n (stored-report kinds ws text)) (sym (none-counted a h))
+        let h : refusal-of (r .answer) ≡ 0 → ⊥ = eqb-false (refusal-of (r .answer)) 0 t in
+        ap (λ (n : ℕ). take n (r .lines)) (none-counted (r .answer) h) ∙ ap (λ (n : ℕ). take n (stored-report kinds ws text)) (sym (none-counted (r .answer) h))
 
 -- what is printed for them
-pub called-output : {kinds ws text work lent work′ lent′ : List ℕ} {a : Answer} → Called kinds ws text work lent a work′ lent′ → output-lines a (lines-of lent′) text ≡ output-lines a (stored-report kinds ws text) text
+pub called-output : {kinds ws text work work′ : List ℕ} {room : ℕ} {r : Report} → All-checked kinds ws text work room r work′ → output-lines (r .answer) (r .lines) text ≡ output-lines (r .answer) (stored-report kinds ws text) text
 unfolding output-lines
-called-output {text = text} {a = a} c = ap (λ (ls : List Line). header a ∷ map (line (names-of text)) ls) (called-lines c)
+called-output {text = text} {r = r} c = ap (λ (ls : List Line). header (r .answer) ∷ map (line (names-of text)) ls) (called-lines c)
 
 -- their status
-pub called-status : {kinds ws text work lent work′ lent′ : List ℕ} {a : Answer} → Called kinds ws text work lent a work′ lent′ → status-of a (lines-of lent′) ≡ status-of a (stored-report kinds ws text)
+pub called-status : {kinds ws text work work′ : List ℕ} {room : ℕ} {r : Report} → All-checked kinds ws text work room r work′ → status-of (r .answer) (r .lines) ≡ status-of (r .answer) (stored-report kinds ws text)
 unfolding status-of
-called-status {a = a} c = ap (λ (ls : List Line). if eqb (refusal-of a) 0 then (if any-error ls then 1 else 0) else 2) (called-lines c)
+called-status {r = r} c = ap (λ (ls : List Line). if eqb (refusal-of (r .answer)) 0 then (if any-error ls then 1 else 0) else 2) (called-lines c)
 
 -- a refusal prints its header
 refused-output : (a : Answer) (ls : List Line) (text : List ℕ) → (refusal-of a ≡ 0 → ⊥) → output-lines a ls text ≡ header a ∷ []
@@ -193,10 +182,10 @@ not-none : {m : Model} → _≡_ {A = Option Model} none (some m) → ⊥
 not-none e = let z : _≡_ {A = ℕ} 0 1 = cc in omega arith
 
 -- the call on the parts of a file is the answer to it
-pub answered-parts : (file lent₀ ws work lent work′ lent′ kinds text : List ℕ) (n t : ℕ) (d : File) (a : Answer) → Decoded file lent₀ d ws → d ≡ Parts n t → kinds ≡ kinds-of (parse file) → text ≡ text-of (parse file)
-    → Called kinds (take n ws) text work lent a work′ lent′ → Answered file work lent a work′ lent′
+pub answered-parts : (file lent₀ ws work work′ kinds text : List ℕ) (room n t : ℕ) (d : File) (r : Report) → Decoded file lent₀ d ws → d ≡ Parts n t → kinds ≡ kinds-of (parse file) → text ≡ text-of (parse file)
+    → All-checked kinds (take n ws) text work room r work′ → Answered file work room r work′
 unfolding kinds-of text-of words-of
-answered-parts file lent₀ ws work lent work′ lent′ kinds text n t d a x y ks ts c =
+answered-parts file lent₀ ws work work′ kinds text room n t d r x y ks ts c =
     let p = decoded-parts file lent₀ ws n t d x y in
     record {
       called = λ m e.
@@ -208,34 +197,34 @@ answered-parts file lent₀ ws work lent work′ lent′ kinds text n t d a x y 
     }
 
 -- a wrong file is refusal 1
-pub answered-wrong : (file lent₀ ws work lent : List ℕ) (d : File) → 4096 ≤ length lent₀ → Decoded file lent₀ d ws → d ≡ Wrong → Answered file work lent Sizes work lent
-answered-wrong file lent₀ ws work lent d h x y =
+pub answered-wrong : (file lent₀ ws work : List ℕ) (room : ℕ) (d : File) (r : Report) → 4096 ≤ length lent₀ → Decoded file lent₀ d ws → d ≡ Wrong → r ≡ wrong-report → Answered file work room r work
+answered-wrong file lent₀ ws work room d r h x y e =
     let p = decoded-wrong file (length lent₀) d h (x .answer) y in
-    record { called = λ m e. absurd (not-none (sym p ∙ e)); wrong = λ e. (refl, refl, refl) }
+    record { called = λ m e. absurd (not-none (sym p ∙ e)); wrong = λ _. (e, refl) }
 
 -- the response to a file, where the program lends its work words and lines
-pub responded : (file o o′ work lent work′ lent′ text : List ℕ) (a : Answer) (r : Response) → length work ≡ 4096 → length lent ≡ 6144 → Answered file work lent a work′ lent′ → text ≡ text-of (parse file) → Filled (output-lines a (lines-of lent′) text) o 0 (r .size) o′ → r .status ≡ status-of a (lines-of lent′) → Responded file o r o′
+pub responded : (file o o′ work work′ text : List ℕ) (a : Report) (r : Response) → length work ≡ 4096 → Answered file work 1024 a work′ → text ≡ text-of (parse file) → Filled (output-lines (a .answer) (a .lines) text) o 0 (r .size) o′ → r .status ≡ status-of (a .answer) (a .lines) → Responded file o r o′
 unfolding lines-to status-to text-of output-of
-responded file o o′ work lent work′ lent′ text a r four six c t f s = go (parse file) refl
+responded file o o′ work work′ text a r four c t f s = go (parse file) refl
   where
     go : (p : Option Model) → parse file ≡ p → Responded file o r o′
     go none e =
-        let z : a ≡ Sizes = c .wrong e .0 in
-        let h : refusal-of a ≡ 0 → ⊥ = λ y. let q : _≡_ {A = ℕ} 1 0 = ap refusal-of (sym z) ∙ y in omega arith in
+        let z : a .answer ≡ Sizes = ap (λ (x : Report). x .answer) (c .wrong e .0) in
+        let h : refusal-of (a .answer) ≡ 0 → ⊥ = λ y. let q : _≡_ {A = ℕ} 1 0 = ap refusal-of (sym z) ∙ y in omega arith in
         record {
-          filled = rw e (subst (λ bs. Filled bs o 0 (r .size) o′) (refused-output a (lines-of lent′) text h ∙ ap (λ (x : Answer). header x ∷ []) z) f);
-          whole = λ b. rw e (subst (λ bs. Rendered bs o (r .size) o′) (refused-printed a (lines-of lent′) text h ∙ ap header z) (refused-whole a (lines-of lent′) text h b f));
-          status = s ∙ refused-status a (lines-of lent′) h ∙ sym (ap status-to e);
+          filled = rw e (subst (λ bs. Filled bs o 0 (r .size) o′) (refused-output (a .answer) (a .lines) text h ∙ ap (λ (x : Answer). header x ∷ []) z) f);
+          whole = λ b. rw e (subst (λ bs. Rendered bs o (r .size) o′) (refused-printed (a .answer) (a .lines) text h ∙ ap header z) (refused-whole (a .answer) (a .lines) text h b f));
+          status = s ∙ refused-status (a .answer) (a .lines) h ∙ sym (ap status-to e);
         }
     go (some m) e =
         let k = c .called m e in
         let ls : List Line = stored-report (m .kinds) (m .words) (m .text) in
         let n : text ≡ m .text = t ∙ ap text-of e in
-        let d : room lent ≡ 1024 = omega arith in
-        let w : a ≡ answer (m .kinds) (m .words) (m .text) 4096 1024 = k .answered ∙ ap (λ (x : ℕ). answer (m .kinds) (m .words) (m .text) x (room lent)) four ∙ ap (λ (x : ℕ). answer (m .kinds) (m .words) (m .text) 4096 x) d in
-        let g : Filled (output-lines a ls (m .text)) o 0 (r .size) o′ = subst (λ bs. Filled bs o 0 (r .size) o′) (ap (λ (x : List ℕ). output-lines a (lines-of lent′) x) n ∙ called-output k) f in
+        let d : length (lent 1024) ≡ 1024 = length-replicate 1024 blank in
+        let w : a .answer ≡ answer (m .kinds) (m .words) (m .text) 4096 1024 = k .checked .answered ∙ (λ i. answer (m .kinds) (m .words) (m .text) (four i) (d i)) in
+        let g : Filled (output-lines (a .answer) ls (m .text)) o 0 (r .size) o′ = subst (λ bs. Filled bs o 0 (r .size) o′) (ap (λ (x : List ℕ). output-lines (a .answer) (a .lines) x) n ∙ called-output k) f in
         record {
           filled = rw e (subst (λ x. Filled (output-lines x ls (m .text)) o 0 (r .size) o′) w g);
-          whole = λ b. rw e (subst (λ x. Rendered (printed x ls (m .text)) o (r .size) o′) w (called-whole (m .kinds) (m .words) (m .text) 4096 a w b g));
+          whole = λ b. rw e (subst (λ x. Rendered (printed x ls (m .text)) o (r .size) o′) w (called-whole (m .kinds) (m .words) (m .text) 4096 (a .answer) w b g));
           status = s ∙ called-status k ∙ ap (λ (x : Answer). status-of x ls) w ∙ sym (ap status-to e);
         }

@@ -1,4 +1,4 @@
-pub mod Places
+pub mod Errors
 pub mod Printing
 pub mod Files
 pub mod Answers

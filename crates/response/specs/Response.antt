@@ -1,34 +1,30 @@
 -- The response to a file: document 01, program `check`. The call on what the file holds, the bytes that are printed, and the status of a
 -- run, 0 for a report without an error, 1 for one with an error, 2 for a refusal.
 -- Assumes nothing: these are definitions.
-use Prim.Native.Nat.{ℕ, zero, suc, _≤_}
+use Prim.Native.Nat.{ℕ, _≤_}
 use mathlib.Core.Path.{_≡_}
 use mathlib.Core.Bool.{Bool, true, false, _||_}
 use mathlib.Core.List.{List, [], _∷_}
 use mathlib.Core.Option.{Option, none, some}
 use lib.Dec.{eqb}
-use lib.ListN.{length, take, drop}
+use lib.ListN.{length, take, replicate}
 use Rattle.lustre.specs.Name.{if_then_else_}
 use Rattle.lustre.specs.Line.{Severity, Error, Warning, severity}
 use Rattle.lustre.specs.Answer.{refusal-of, answer, stored-report}
 use Rattle.lustre.specs.declared.Line.{Line}
 use Rattle.lustre.specs.declared.Answer.{Answer}
 use Rattle.lustre.specs.declared.Answer.the-variants.{Sizes}
-use Rattle.lines.specs.Lines.{line-in, room}
 use Rattle.format.specs.File.{Model, parse}
 use Rattle.format.specs.Output.{header, line-count, output-lines, output}
 use Rattle.format.specs.Buffers.{Rendered, Filled}
-use Rattle.project.specs.Call.{Called}
+use Rattle.staging.specs.Batches.{blank}
+use Rattle.checker.specs.Call.{All-checked}
+use Rattle.checker.specs.declared.Report.{Report}
 use Rattle.response.specs.declared.Response.{Response}
 
--- the lines at the first n places of a buffer
-unfoldable pub lines-in : ℕ → List ℕ → List Line
-lines-in zero o = []
-lines-in (suc n) o = line-in o 0 ∷ lines-in n (drop 6 o)
-
--- the lines at all places of a buffer
-abbrev pub lines-of : List ℕ → List Line
-lines-of o = lines-in (room o) o
+-- the report on a wrong file: refusal 1, and blank lines
+abbrev pub wrong-report : Report
+wrong-report = record { answer = Sizes; lines = replicate 1024 blank }
 
 -- whether a line of this severity is an error
 unfoldable pub is-error : Severity → Bool
@@ -44,11 +40,11 @@ any-error (l ∷ ls) = is-error (severity (l .code)) || any-error ls
 unfoldable pub status-of : Answer → List Line → ℕ
 status-of a ls = if eqb (refusal-of a) 0 then (if any-error (take (line-count a) ls) then 1 else 0) else 2
 
--- the answer r to a file, and the work memory and the lines after it: those of the call on what the file holds; where it holds nothing,
--- refusal 1 with both as they were
-pub record Answered (file work lent : List ℕ) (r : Answer) (work′ lent′ : List ℕ) : Type 0 where
-  pub called : (m : Model) → parse file ≡ some m → Called (m .kinds) (m .words) (m .text) work lent r work′ lent′
-  pub wrong : parse file ≡ none → (r ≡ Sizes) × (work′ ≡ work) × (lent′ ≡ lent)
+-- the report r on a file, and the work memory after it: those of the call on what the file holds, with room for so many lines; where it holds
+-- nothing, refusal 1 with blank lines and the work memory as it was
+pub record Answered (file work : List ℕ) (room : ℕ) (r : Report) (work′ : List ℕ) : Type 0 where
+  pub called : (m : Model) → parse file ≡ some m → All-checked (m .kinds) (m .words) (m .text) work room r work′
+  pub wrong : parse file ≡ none → (r ≡ wrong-report) × (work′ ≡ work)
 
 -- the lines that are printed for what a file holds, with 4,096 work words and 1,024 lines lent
 unfoldable pub lines-to : Option Model → List (List ℕ)

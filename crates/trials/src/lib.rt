@@ -1,9 +1,10 @@
 // Runs a stream of cases, each with its work memory and its room for lines, and prints for each whether it agrees: what is printed for it,
-// the lines stored, what was lent behind them, and the work memory. It reads from standard input; tests/edges/make says what a case holds.
+// the lines stored, the blank lines behind them, and the work memory. It reads from standard input; tests/edges/make says what a case holds.
 // The programs `edges` and `explained` are this on a file of their own.
 use cases::label;
 use cases::little;
 use cases::read_part;
+use checker::Report;
 use lustre::Answer;
 
 // Room for a file of a few bytes more than any that is not refusal 1, and for what is printed.
@@ -11,14 +12,12 @@ const FILE: usize = 60000;
 
 const TEXT: usize = 65536;
 
-// The most work words and lines that a case is lent, and the words and bytes of these lines.
+// The most work words and lines that a case is lent, and the bytes of these lines.
 const WORK: usize = 8192;
 
-const LINES: usize = 2048;
+const LINES: usize = 1024;
 
-const LINE_WORDS: usize = 12288;
-
-const LINE_BYTES: usize = 98304;
+const LINE_BYTES: usize = 49152;
 
 // The most cases that are read.
 const MOST: u64 = 100000;
@@ -35,42 +34,32 @@ fn work_holds(a: Answer, work: &[u64]) -> bool {
     cases::is_filled(work, 0)
 }
 
-// Says whether the first lines of a buffer are those that are due, and what is behind them is as it was.
-fn lines_hold(lines: &[u64], due: &[u8], stored: usize) -> bool {
-    if stored > LINES {
-        return false;
-    }
-    if !cases::same_words(lines, 6 * stored, due) {
-        return false;
-    }
-    cases::is_filled(lines, 6 * stored)
-}
-
-// Says whether this text is printed for an answer to a file.
-fn prints(a: Answer, file: &[u8], lines: &[u64], text: &[u8]) -> bool {
+// Says whether this text is printed for the report on a file.
+fn prints(r: Report, file: &[u8], text: &[u8]) -> bool {
     let mut out = [0u8; TEXT];
-    let n = response::render(&mut out, format::text_in(file), lines, a);
+    let n = response::render(&mut out, format::text_in(file), r);
     cases::same_bytes(&out, n, text)
 }
 
-// Makes the call on a file with these buffers lent, and compares.
+// Makes the call on a file with this work memory and room for lines lent, and compares.
 fn holds(
     file: &[u8],
     work: &mut [u64],
-    lines: &mut [u64],
+    room: usize,
     text: &[u8],
     due: &[u8],
     stored: usize,
 ) -> bool {
     cases::fill(work);
-    cases::fill(lines);
-    let a = response::answer_to(file, work, lines);
-    if !prints(a, file, lines, text) {
+    let r = response::answer_to(file, work, room);
+    if !prints(r, file, text) {
         return false;
     }
-    if !lines_hold(lines, due, stored) {
+    let lines = r.lines;
+    if !cases::same_lines(lines, stored, due) {
         return false;
     }
+    let a = r.answer;
     work_holds(a, work)
 }
 
@@ -82,17 +71,8 @@ fn agrees(file: &[u8], work: usize, room: usize, text: &[u8], due: &[u8], stored
     if room > LINES {
         return false;
     }
-    let words = 6 * room;
-    let mut work_words = [0u64; WORK];
-    let mut line_words = [0u64; LINE_WORDS];
-    holds(
-        file,
-        &mut work_words[..work],
-        &mut line_words[..words],
-        text,
-        due,
-        stored,
-    )
+    let mut words = [0u64; WORK];
+    holds(file, &mut words[..work], room, text, due, stored)
 }
 
 // Prints what became of a case; false where a size is past its buffer.

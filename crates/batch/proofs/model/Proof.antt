@@ -59,9 +59,6 @@ same-length-4 c = search needs
 returns-5 : tie.Need-returns-5
 returns-5 c = search needs
 
-mul-words : tie.Need-mul-words
-mul-words c = search needs
-
 slice-reshare-prefix-print-answer : tie.Need-slice-reshare-prefix-print-answer
 slice-reshare-prefix-print-answer c = search needs
 
@@ -74,12 +71,6 @@ slice-relend-prefix-print-answer c = search needs
 slice-aggregate-print-answer-2 : tie.Need-slice-aggregate-print-answer-2
 slice-aggregate-print-answer-2 c = simp length-take (omega arith)
 
-slice-relend-prefix-print-answer-2 : tie.Need-slice-relend-prefix-print-answer-2
-slice-relend-prefix-print-answer-2 c = search needs
-
-slice-aggregate-print-answer-3 : tie.Need-slice-aggregate-print-answer-3
-slice-aggregate-print-answer-3 c = simp length-take (omega arith)
-
 print-answer-requires : tie.Need-print-answer-requires
 print-answer-requires c κs = search needs
 
@@ -91,9 +82,6 @@ same-length-6 c = search needs
 
 same-length-7 : tie.Need-same-length-7
 same-length-7 c = search needs
-
-same-length-8 : tie.Need-same-length-8
-same-length-8 c = search needs
 
 returns-6 : tie.Need-returns-6
 returns-6 c = search needs
@@ -120,16 +108,12 @@ model-spec =
     returns-4
     same-length-4
     returns-5
-    mul-words
     slice-reshare-prefix-print-answer
     slice-aggregate-print-answer
     slice-relend-prefix-print-answer
     slice-aggregate-print-answer-2
-    slice-relend-prefix-print-answer-2
-    slice-aggregate-print-answer-3
     print-answer-requires
     same-length-5
     same-length-6
     same-length-7
-    same-length-8
     returns-6)

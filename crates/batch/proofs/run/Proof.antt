@@ -1,16 +1,16 @@
 -- `batch::run` stays within its buffers and ends. Assumes nothing.
 use native.Mathlib.Omega.{arith}
 use borrow.Author.Needs.{needs}
-use lib.ListN.{length}
 use mathlib.Core.Path.{_≡_}
+use lib.ListN.{length}
 use Rattle.batch.proofs.run.Statement.{statement}
 use Rattle.batch.proofs.run.Tie as tie
 
 abbrev Inv-loop : tie.InvT-loop
-Inv-loop file₀ work₀ lines₀ out₀ left₀ file work lines out left = (length file ≡ length file₀) × (length work ≡ length work₀) × (length lines ≡ length lines₀) × (length out ≡ length out₀)
+Inv-loop file₀ work₀ out₀ left₀ file work out left = (length file ≡ length file₀) × (length work ≡ length work₀) × (length out ≡ length out₀)
 
 abbrev μ-loop : tie.MeasureT-loop
-μ-loop file₀ work₀ lines₀ out₀ left₀ file work lines out left = left
+μ-loop file₀ work₀ out₀ left₀ file work out left = left
 
 loop-holds : tie.Need-loop-holds Inv-loop μ-loop
 loop-holds c = omega arith
@@ -27,9 +27,6 @@ same-length-2 c = omega arith
 same-length-3 : tie.Need-same-length-3 Inv-loop μ-loop
 same-length-3 c = omega arith
 
-same-length-4 : tie.Need-same-length-4 Inv-loop μ-loop
-same-length-4 c = omega arith
-
 returns : tie.Need-returns Inv-loop μ-loop
 returns c = search needs
 
@@ -42,17 +39,14 @@ loop-less c = omega arith
 loop-again : tie.Need-loop-again Inv-loop μ-loop
 loop-again c = omega arith
 
+same-length-4 : tie.Need-same-length-4 Inv-loop μ-loop
+same-length-4 c = omega arith
+
 same-length-5 : tie.Need-same-length-5 Inv-loop μ-loop
 same-length-5 c = omega arith
 
 same-length-6 : tie.Need-same-length-6 Inv-loop μ-loop
 same-length-6 c = omega arith
-
-same-length-7 : tie.Need-same-length-7 Inv-loop μ-loop
-same-length-7 c = omega arith
-
-same-length-8 : tie.Need-same-length-8 Inv-loop μ-loop
-same-length-8 c = omega arith
 
 returns-2 : tie.Need-returns-2 Inv-loop μ-loop
 returns-2 c = search needs
@@ -68,13 +62,11 @@ run-spec =
     same-length
     same-length-2
     same-length-3
-    same-length-4
     returns
     sub-left
     loop-less
     loop-again
+    same-length-4
     same-length-5
     same-length-6
-    same-length-7
-    same-length-8
     returns-2)

@@ -14,29 +14,17 @@ slice-aggregate-fill c = search needs
 fill-requires : tie.Need-fill-requires
 fill-requires c κs = search needs
 
-slice-aggregate-fill-2 : tie.Need-slice-aggregate-fill-2
-slice-aggregate-fill-2 c = search needs
-
-fill-requires-2 : tie.Need-fill-requires-2
-fill-requires-2 c κs = search needs
-
 slice-aggregate-answer-to : tie.Need-slice-aggregate-answer-to
 slice-aggregate-answer-to c = simp length-take (omega arith)
 
 slice-aggregate-answer-to-2 : tie.Need-slice-aggregate-answer-to-2
 slice-aggregate-answer-to-2 c = search needs
 
-slice-aggregate-answer-to-3 : tie.Need-slice-aggregate-answer-to-3
-slice-aggregate-answer-to-3 c = search needs
-
 answer-to-requires : tie.Need-answer-to-requires
 answer-to-requires c κs = search needs
 
 slice-aggregate-holds : tie.Need-slice-aggregate-holds
 slice-aggregate-holds c = search needs
-
-slice-aggregate-holds-2 : tie.Need-slice-aggregate-holds-2
-slice-aggregate-holds-2 c = search needs
 
 holds-requires : tie.Need-holds-requires
 holds-requires c κs = search needs
@@ -51,13 +39,9 @@ agrees-spec =
     returns
     slice-aggregate-fill
     fill-requires
-    slice-aggregate-fill-2
-    fill-requires-2
     slice-aggregate-answer-to
     slice-aggregate-answer-to-2
-    slice-aggregate-answer-to-3
     answer-to-requires
     slice-aggregate-holds
-    slice-aggregate-holds-2
     holds-requires
     returns-2)

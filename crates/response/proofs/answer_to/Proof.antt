@@ -22,29 +22,29 @@ kinds-in-requires c κs = search needs
 array-share-prefix-words : tie.Need-array-share-prefix-words
 array-share-prefix-words c = omega (arith, parts-few (c .before .before .before .before .before .decode .ensures) (c .before .before .n .given .1))
 
-slice-aggregate-check : tie.Need-slice-aggregate-check
-slice-aggregate-check c = simp length-take (omega (arith, parts-few (c .before .before .before .before .before .before .decode .ensures) (c .before .before .before .n .given .1)))
+slice-aggregate-check-all : tie.Need-slice-aggregate-check-all
+slice-aggregate-check-all c = simp length-take (omega (arith, parts-few (c .before .before .before .before .before .before .decode .ensures) (c .before .before .before .n .given .1)))
 
 text-in-requires : tie.Need-text-in-requires
 text-in-requires c κs = search needs
 
-check-requires : tie.Need-check-requires
-check-requires c κs = search needs
+check-all-requires : tie.Need-check-all-requires
+check-all-requires c κs = search needs
 
 enum-told : tie.Need-enum-told
 enum-told c = search needs
 
+wrong-requires : tie.Need-wrong-requires
+wrong-requires c κs = search needs
+
 same-length : tie.Need-same-length
 same-length c = search needs
 
-same-length-2 : tie.Need-same-length-2
-same-length-2 c = search needs
-
 returns : tie.Need-returns
-returns c = answered-parts _ _ _ _ _ _ _ _ _ _ _ _ _ (c .before .before .before .before .before .before .before .before .before .before .before .before .before .before .decode .ensures) (c .before .before .before .before .before .before .before .before .before .before .before .n .given .1) (c .before .before .before .before .before .before .before .before .before .kinds-in .ensures) (c .before .before .before .before .before .before .before .text-in .ensures) (c .before .before .before .before .check .ensures)
+returns c = answered-parts _ _ _ _ _ _ _ _ _ _ _ _ (c .before .before .before .before .before .before .before .before .before .before .before .decode .ensures) (c .before .before .before .before .before .before .before .before .n .given .1) (c .before .before .before .before .before .before .kinds-in .ensures) (c .before .before .before .before .text-in .ensures) (c .before .before .check-all .ensures)
 
 returns-2 : tie.Need-returns-2
-returns-2 c = answered-wrong _ _ _ _ _ _ (omega arith) (c .before .before .before .decode .ensures) (c .enum-told .given .1)
+returns-2 c = answered-wrong _ _ _ _ _ _ _ (omega arith) (c .before .before .before .before .decode .ensures) (c .before .enum-told .given .1) (c .wrong .ensures)
 
 pub answer-to-spec : {M : Type 1} → statement M
 answer-to-spec =
@@ -55,11 +55,11 @@ answer-to-spec =
     enum-known-n
     kinds-in-requires
     array-share-prefix-words
-    slice-aggregate-check
+    slice-aggregate-check-all
     text-in-requires
-    check-requires
+    check-all-requires
     enum-told
+    wrong-requires
     same-length
-    same-length-2
     returns
     returns-2)

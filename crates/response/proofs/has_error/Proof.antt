@@ -2,15 +2,15 @@
 -- what is left of the places. Assumes nothing.
 use native.Mathlib.Omega.{arith}
 use Prim.Native.Nat.{_-_}
-use Rattle.response.proofs.Places.{Looking, looking-start, looking-on, looking-found, looking-counted, looking-ended}
+use Rattle.response.proofs.Errors.{Looking, looking-start, looking-on, looking-found, looking-counted, looking-ended}
 use Rattle.response.proofs.has_error.Statement.{statement}
 use Rattle.response.proofs.has_error.Tie as tie
 
 abbrev Inv-loop : tie.InvT-loop
-Inv-loop lines count room i₀ i = Looking count lines i
+Inv-loop count lines i₀ i = Looking count lines i
 
 abbrev μ-loop : tie.MeasureT-loop
-μ-loop lines count room i₀ i = room - i
+μ-loop count lines i₀ i = 1024 - i
 
 loop-holds : tie.Need-loop-holds Inv-loop μ-loop
 loop-holds c = looking-start _ _
@@ -18,11 +18,14 @@ loop-holds c = looking-start _ _
 returns : tie.Need-returns Inv-loop μ-loop
 returns c = looking-counted (c .before .before .loop .inv) (omega arith)
 
-line-at-requires : tie.Need-line-at-requires Inv-loop μ-loop
-line-at-requires c κs = omega arith
+mul-l : tie.Need-mul-l Inv-loop μ-loop
+mul-l c = omega arith
+
+array-copy-out-l : tie.Need-array-copy-out-l Inv-loop μ-loop
+array-copy-out-l c = omega arith
 
 returns-2 : tie.Need-returns-2 Inv-loop μ-loop
-returns-2 c = looking-found _ (c .before .before .before .before .before .loop .inv) (c .before .before .line-at .ensures) (omega arith) (omega arith) (c .if2 .taken)
+returns-2 c = looking-found _ (c .before .before .before .before .before .loop .inv) (omega arith) (omega (arith, c .before .before .before .before .before .before .good .0 .1 .0 .1)) (c .if2 .taken)
 
 add-i : tie.Need-add-i Inv-loop μ-loop
 add-i c = omega arith
@@ -31,10 +34,10 @@ loop-less : tie.Need-loop-less Inv-loop μ-loop
 loop-less c = omega arith
 
 loop-again : tie.Need-loop-again Inv-loop μ-loop
-loop-again c = looking-on _ (c .before .before .before .before .before .loop .inv) (c .before .before .line-at .ensures) (omega arith) (omega arith) (c .if2 .left)
+loop-again c = looking-on _ (c .before .before .before .before .before .loop .inv) (omega arith) (omega (arith, c .before .before .before .before .before .before .good .0 .1 .0 .1)) (c .if2 .left)
 
 returns-3 : tie.Need-returns-3 Inv-loop μ-loop
-returns-3 c = looking-ended (c .before .loop .inv) (omega arith)
+returns-3 c = looking-ended (c .before .loop .inv) (omega (arith, c .before .before .good .0 .1 .0 .1))
 
 pub has-error-spec : {M : Type 1} → statement M
 has-error-spec =
@@ -44,7 +47,8 @@ has-error-spec =
     μ-loop
     loop-holds
     returns
-    line-at-requires
+    mul-l
+    array-copy-out-l
     returns-2
     add-i
     loop-less

@@ -17,13 +17,13 @@ line-count-requires : tie.Need-line-count-requires
 line-count-requires c κs = search needs
 
 render-lines-requires : tie.Need-render-lines-requires
-render-lines-requires c κs = rendered-within (c .before .before .before .before .before .render-answer .ensures) (c .before .before .if1 .left)
+render-lines-requires c κs = rendered-within (c .before .before .before .before .before .before .render-answer .ensures) (c .before .before .before .if1 .left)
 
 same-length-2 : tie.Need-same-length-2
 same-length-2 c = search needs
 
 returns-2 : tie.Need-returns-2
-returns-2 c = output-more _ _ _ (c .before .before .before .before .before .before .before .before .render-answer .ensures) (c .before .before .before .before .before .if1 .left) (c .before .before .before .line-count .ensures) (c .before .before .render-lines .ensures)
+returns-2 c = output-more _ _ _ (c .before .before .before .before .before .before .before .before .before .render-answer .ensures) (c .before .before .before .before .before .before .if1 .left) (c .before .before .before .line-count .ensures) (c .before .before .render-lines .ensures)
 
 pub render-spec : {M : Type 1} → statement M
 render-spec =

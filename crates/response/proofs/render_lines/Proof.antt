@@ -5,25 +5,24 @@ use borrow.Author.Needs.{needs}
 use Prim.Native.Nat.{_-_}
 use Rattle.lustre.specs.Names.{names-of}
 use Rattle.format.specs.Output.{line}
-use Rattle.format.proofs.Fill.{part-fits, line-positive}
-use Rattle.response.proofs.Printing.{Printing, printing-start, printing-counted, printing-ended, printing-skip, printing-more}
+use Rattle.format.proofs.Fill.{Going, going-start, going-counted, going-ended, going-skip, going-more, part-fits, line-positive}
 use Rattle.response.proofs.render_lines.Statement.{statement}
 use Rattle.response.proofs.render_lines.Tie as tie
 
 abbrev Inv-loop : tie.InvT-loop
-Inv-loop out₀ start text lines count room at₀ i₀ out at i = Printing (line (names-of text)) count lines out₀ start out at i
+Inv-loop out₀ start text count lines at₀ i₀ out at i = Going (line (names-of text)) count lines out₀ start out at i
 
 abbrev μ-loop : tie.MeasureT-loop
-μ-loop out₀ start text lines count room at₀ i₀ out at i = room - i
+μ-loop out₀ start text count lines at₀ i₀ out at i = 1024 - i
 
 loop-holds : tie.Need-loop-holds Inv-loop μ-loop
-loop-holds c = printing-start (omega arith)
+loop-holds c = going-start (omega arith)
 
 same-length : tie.Need-same-length Inv-loop μ-loop
-same-length c = c .before .before .loop .inv .going .long
+same-length c = c .before .before .loop .inv .long
 
 returns : tie.Need-returns Inv-loop μ-loop
-returns c = printing-counted (c .before .before .loop .inv) (omega arith)
+returns c = going-counted (c .before .before .loop .inv) (omega arith)
 
 sub-render-line : tie.Need-sub-render-line Inv-loop μ-loop
 sub-render-line c = omega arith
@@ -34,8 +33,11 @@ part-render-line-start c = omega arith
 part-render-line-end : tie.Need-part-render-line-end Inv-loop μ-loop
 part-render-line-end c = omega arith
 
-line-at-requires : tie.Need-line-at-requires Inv-loop μ-loop
-line-at-requires c κs = omega arith
+mul-render-line : tie.Need-mul-render-line Inv-loop μ-loop
+mul-render-line c = omega arith
+
+array-copy-out-render-line : tie.Need-array-copy-out-render-line Inv-loop μ-loop
+array-copy-out-render-line c = omega arith
 
 render-line-requires : tie.Need-render-line-requires Inv-loop μ-loop
 render-line-requires c κs = search needs
@@ -44,10 +46,10 @@ same-length-2 : tie.Need-same-length-2 Inv-loop μ-loop
 same-length-2 c = search needs
 
 returns-2 : tie.Need-returns-2 Inv-loop μ-loop
-returns-2 c = printing-skip _ (c .before .before .before .before .before .before .before .before .loop .inv) (c .before .before .before .before .line-at .ensures) (omega arith) (omega arith) (c .before .before .before .render-line .ensures) (line-positive _ _) (c .if2 .taken)
+returns-2 c = going-skip _ (c .before .before .before .before .before .before .before .before .loop .inv) (omega arith) (omega (arith, c .before .before .before .before .before .before .before .before .before .before .before .good .1 .1 .1 .0 .1 .0 .1)) (c .before .before .before .render-line .ensures) (line-positive _ _) (c .if2 .taken)
 
 add-at : tie.Need-add-at Inv-loop μ-loop
-add-at c = omega (arith, part-fits (c .before .before .before .before .before .before .before .before .loop .out) (c .before .before .before .before .before .before .before .before .loop .at) (c .before .before .before .render-line .ensures) (c .before .before .before .before .before .before .before .before .loop .inv .going .within))
+add-at c = omega (arith, part-fits (c .before .before .before .before .before .before .before .before .loop .out) (c .before .before .before .before .before .before .before .before .loop .at) (c .before .before .before .render-line .ensures) (c .before .before .before .before .before .before .before .before .loop .inv .within))
 
 add-i : tie.Need-add-i Inv-loop μ-loop
 add-i c = omega arith
@@ -56,13 +58,13 @@ loop-less : tie.Need-loop-less Inv-loop μ-loop
 loop-less c = omega arith
 
 loop-again : tie.Need-loop-again Inv-loop μ-loop
-loop-again c = printing-more _ (c .before .before .before .before .before .before .before .before .loop .inv) (c .before .before .before .before .line-at .ensures) (omega arith) (omega arith) (c .before .before .before .render-line .ensures) (c .if2 .left)
+loop-again c = going-more _ (c .before .before .before .before .before .before .before .before .loop .inv) (omega arith) (omega (arith, c .before .before .before .before .before .before .before .before .before .before .before .good .1 .1 .1 .0 .1 .0 .1)) (c .before .before .before .render-line .ensures) (c .if2 .left)
 
 same-length-3 : tie.Need-same-length-3 Inv-loop μ-loop
-same-length-3 c = c .before .loop .inv .going .long
+same-length-3 c = c .before .loop .inv .long
 
 returns-3 : tie.Need-returns-3 Inv-loop μ-loop
-returns-3 c = printing-ended (c .before .loop .inv) (omega arith)
+returns-3 c = going-ended (c .before .loop .inv) (omega (arith, c .before .before .before .before .good .1 .1 .1 .0 .1 .0 .1))
 
 pub render-lines-spec : {M : Type 1} → statement M
 render-lines-spec =
@@ -76,7 +78,8 @@ render-lines-spec =
     sub-render-line
     part-render-line-start
     part-render-line-end
-    line-at-requires
+    mul-render-line
+    array-copy-out-render-line
     render-line-requires
     same-length-2
     returns-2

@@ -10,23 +10,14 @@ use Rattle.response.proofs.respond.Tie as tie
 slice-aggregate-answer-to : tie.Need-slice-aggregate-answer-to
 slice-aggregate-answer-to c = search needs
 
-slice-aggregate-answer-to-2 : tie.Need-slice-aggregate-answer-to-2
-slice-aggregate-answer-to-2 c = search needs
-
 answer-to-requires : tie.Need-answer-to-requires
 answer-to-requires c κs = search needs
 
 text-in-requires : tie.Need-text-in-requires
 text-in-requires c κs = search needs
 
-slice-aggregate-render : tie.Need-slice-aggregate-render
-slice-aggregate-render c = search needs
-
 render-requires : tie.Need-render-requires
 render-requires c κs = search needs
-
-slice-aggregate-status : tie.Need-slice-aggregate-status
-slice-aggregate-status c = search needs
 
 status-requires : tie.Need-status-requires
 status-requires c κs = search needs
@@ -35,19 +26,16 @@ same-length : tie.Need-same-length
 same-length c = search needs
 
 returns : tie.Need-returns
-returns c = (responded _ _ _ _ _ _ _ _ _ _ refl refl (c .before .before .before .before .before .before .before .before .before .before .answer-to .ensures) (c .before .before .before .before .before .before .text-in .ensures) (c .before .before .before .before .render .ensures) (c .status .ensures), filled-within (c .before .before .before .before .render .ensures) (omega arith))
+returns c = (responded _ _ _ _ _ _ _ _ refl (c .before .before .before .before .before .before .before .answer-to .ensures) (c .before .before .before .before .text-in .ensures) (c .before .before .before .render .ensures) (c .status .ensures), filled-within (c .before .before .before .render .ensures) (omega arith))
 
 pub respond-spec : {M : Type 1} → statement M
 respond-spec =
     tie.close
     (tie.spec
     slice-aggregate-answer-to
-    slice-aggregate-answer-to-2
     answer-to-requires
     text-in-requires
-    slice-aggregate-render
     render-requires
-    slice-aggregate-status
     status-requires
     same-length
     returns)

@@ -15,10 +15,10 @@ has-error-requires : tie.Need-has-error-requires
 has-error-requires c κs = search needs
 
 returns-2 : tie.Need-returns-2
-returns-2 c = status-report _ _ _ _ _ _ (c .before .before .before .before .as-numbers .ensures) (c .before .before .if1 .left) (sym (c .if2 .taken) ∙ c .before .has-error .ensures)
+returns-2 c = status-report _ _ _ _ _ _ (c .before .before .before .before .before .as-numbers .ensures) (c .before .before .before .if1 .left) (sym (c .if2 .taken) ∙ c .before .has-error .ensures)
 
 returns-3 : tie.Need-returns-3
-returns-3 c = status-report _ _ _ _ _ _ (c .before .before .before .before .as-numbers .ensures) (c .before .before .if1 .left) (sym (c .if2 .left) ∙ c .before .has-error .ensures)
+returns-3 c = status-report _ _ _ _ _ _ (c .before .before .before .before .before .as-numbers .ensures) (c .before .before .before .if1 .left) (sym (c .if2 .left) ∙ c .before .has-error .ensures)
 
 pub status-spec : {M : Type 1} → statement M
 status-spec =

@@ -11,20 +11,11 @@ returns c = search needs
 returns-2 : tie.Need-returns-2
 returns-2 c = search needs
 
-mul-words : tie.Need-mul-words
-mul-words c = search needs
-
-array-borrow-prefix-work-words : tie.Need-array-borrow-prefix-work-words
-array-borrow-prefix-work-words c = search needs
+array-borrow-prefix-words : tie.Need-array-borrow-prefix-words
+array-borrow-prefix-words c = search needs
 
 slice-aggregate-holds : tie.Need-slice-aggregate-holds
 slice-aggregate-holds c = simp length-take (omega arith)
-
-array-borrow-prefix-line-words : tie.Need-array-borrow-prefix-line-words
-array-borrow-prefix-line-words c = search needs
-
-slice-aggregate-holds-2 : tie.Need-slice-aggregate-holds-2
-slice-aggregate-holds-2 c = simp length-take (omega arith)
 
 holds-requires : tie.Need-holds-requires
 holds-requires c κs = search needs
@@ -38,10 +29,7 @@ agrees-spec =
     (tie.spec
     returns
     returns-2
-    mul-words
-    array-borrow-prefix-work-words
+    array-borrow-prefix-words
     slice-aggregate-holds
-    array-borrow-prefix-line-words
-    slice-aggregate-holds-2
     holds-requires
     returns-3)
