@@ -1,5 +1,5 @@
-/* stack FILE...: prints for each model the most stack that its check takes, in bytes: the call runs in a thread whose stack was filled with
- * a pattern, and the bytes from the lowest one changed up to the caller's frame are counted. */
+/* stack FILE...: prints for each model the most stack that its check takes, in bytes, by wuroike_check and by wuroike_check_project: the call
+ * runs in a thread whose stack was filled with a pattern, and the bytes from the lowest one changed up to the caller's frame are counted. */
 #include <inttypes.h>
 #include <pthread.h>
 #include <stdio.h>
@@ -13,18 +13,41 @@ enum { SIZE = 16 << 20, ROOM = 1024, LONGEST = 8 + 9 * WUROIKE_RECORDS + WUROIKE
 static uint8_t file[LONGEST + 1];
 static uint64_t words[WUROIKE_RECORDS];
 static uint64_t work[WUROIKE_WORK];
-static uint64_t lines[ROOM * WUROIKE_LINE];
+static wuroike_line lines[ROOM];
 static size_t records, text_length;
 static uint64_t refusal, first, second;
 static uint8_t *top;
 
-/* The thread: the check of the model that was read. */
+/* The thread: the check of the model that was read, with the lines lent as words. */
 static void *call(void *unused) {
     (void)unused;
     top = __builtin_frame_address(0);
-    refusal = wuroike_check(file + 8, records, words, records, file + 8 + 9 * records, text_length, work, WUROIKE_WORK, lines,
+    refusal = wuroike_check(file + 8, records, words, records, file + 8 + 9 * records, text_length, work, WUROIKE_WORK, &lines[0].code,
                             sizeof lines / 8, &first, &second);
     return NULL;
+}
+
+/* The same with the lines lent as structs. */
+static void *call_project(void *unused) {
+    (void)unused;
+    top = __builtin_frame_address(0);
+    refusal = wuroike_check_project(file + 8, records, words, records, file + 8 + 9 * records, text_length, work, WUROIKE_WORK, lines, ROOM,
+                                    &first, &second);
+    return NULL;
+}
+
+/* The most stack that a thread takes; 0 if it can't run. */
+static ptrdiff_t peak(void *(*thread)(void *), pthread_attr_t *attributes, uint8_t *stack) {
+    memset(stack, PATTERN, SIZE);
+    pthread_t id;
+    if (pthread_create(&id, attributes, thread, NULL) != 0 || pthread_join(id, NULL) != 0) {
+        return 0;
+    }
+    uint8_t *low = stack;
+    while (*low == PATTERN) {
+        low++;
+    }
+    return top - low;
 }
 
 /* Reads a model; 0 if it can't. */
@@ -57,17 +80,12 @@ int main(int count, char **paths) {
             fprintf(stderr, "stack: %s is no model\n", paths[i]);
             return 3;
         }
-        memset(stack, PATTERN, SIZE);
-        pthread_t thread;
-        if (pthread_create(&thread, &attributes, call, NULL) != 0 || pthread_join(thread, NULL) != 0) {
+        ptrdiff_t flat = peak(call, &attributes, stack), structs = peak(call_project, &attributes, stack);
+        if (flat == 0 || structs == 0) {
             return 3;
         }
-        uint8_t *low = stack;
-        while (*low == PATTERN) {
-            low++;
-        }
         const char *name = strrchr(paths[i], '/');
-        printf("%9td  %5zu records  answer %" PRIu64 " %" PRIu64 "  %s\n", top - low, records, refusal, first, name ? name + 1 : paths[i]);
+        printf("%9td %9td  %5zu records  answer %" PRIu64 " %" PRIu64 "  %s\n", flat, structs, records, refusal, first, name ? name + 1 : paths[i]);
     }
     return 0;
 }

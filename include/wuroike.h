@@ -1,10 +1,11 @@
-/* Wuroike: the check of a project of a Lustre dialect, as one call on lent memory.
+/* Wuroike: the check of a project of a Lustre dialect, as a call on lent memory, in two forms that give the same answers.
  *
  * Link libexports.a (rt staticlib exports). It needs memcpy and memset and nothing else: no heap, no files, no static memory that is
  * written, no locks. Calls on memory that does not overlap may run at once in several threads.
  *
- * The call reads the records and the text, writes the work memory, the lines and the two numbers, and nothing else. It is proved for all
- * contents and all lengths that it stays within what is lent, ends, and answers as its contract says (crates/exports, crates/project).
+ * A call reads the records and the text, writes the work memory, the lines and the two numbers, and nothing else. It is proved for all
+ * contents and all lengths that it stays within what is lent, ends, and answers as its contract says (crates/exports, crates/project,
+ * crates/checker).
  * What a caller owes is what C can't say: each pointer goes to that many elements, the buffers that are written overlap no other, and there
  * is stack (see below).
  */
@@ -53,7 +54,7 @@ enum wuroike_place {
     WUROIKE_NODE = 4
 };
 
-/* What the call returns: a report, or the lowest refusal that applies. */
+/* What a call returns: a report, or the lowest refusal that applies. */
 enum wuroike_answer {
     WUROIKE_REPORT = 0,     /* first: the number of lines; second: the number of edges that the search for loops followed */
     WUROIKE_SIZES = 1,      /* kinds and words differ in number, or too many records or bytes of text. first: 0 */
@@ -81,13 +82,29 @@ enum wuroike_answer {
  * The lines may be declared as wuroike_line[n] and lent as &line[0].code with 6 * n words.
  *
  * Stack: proofs don't speak of it, so these are measured peaks of the call, in bytes (docs/PERFORMANCE.md). 60 levels of expression, the
- * deepest accepted: 1,025,768 (a fold with a seed), 919,096 (a fold without), 599,304 (if), less for all else. 4,096 nested records, which
- * are refused once all are read: 1,018,552. A path of 512 names: 109,424. A clean model: 66,088. Give a thread 1,200,000.
+ * deepest accepted: 1,026,008 (a fold with a seed), 919,336 (a fold without), 599,544 (if), less for all else. 4,096 nested records, which
+ * are refused once all are read: 982,328. A path of 512 names: 109,664. A clean model: 66,328. Give a thread 1,200,000.
  * Static memory: none is written.
  */
 uint64_t wuroike_check(const uint8_t *kinds, size_t kinds_length, const uint64_t *words, size_t words_length, const uint8_t *text,
                        size_t text_length, uint64_t *work, size_t work_length, uint64_t *lines, size_t lines_length, uint64_t *first,
                        uint64_t *second);
+
+/* Checks a project, with the lines lent as an array of wuroike_line.
+ *
+ * All arguments, answers and what is left in the buffers are as above but for this: lines_length is a number of lines, and there are no words
+ * past the last whole line.
+ *
+ * The lines go through the work memory, a batch of work_length / 6 at a time, and each batch takes one pass over the project, which makes the
+ * whole report again: with 4,096 words a report of at most 682 lines takes one pass, one of 1,024 two, one of 100,199 lines 147.
+ * wuroike_check takes one pass whatever the number of lines. Lend 6 words for each line to have one pass here too (docs/PERFORMANCE.md has
+ * the times).
+ *
+ * Stack: 32,848 bytes more than above in every case, at most 1,058,856. Give a thread 1,200,000.
+ */
+uint64_t wuroike_check_project(const uint8_t *kinds, size_t kinds_length, const uint64_t *words, size_t words_length, const uint8_t *text,
+                               size_t text_length, uint64_t *work, size_t work_length, wuroike_line *lines, size_t lines_length,
+                               uint64_t *first, uint64_t *second);
 
 #ifdef __cplusplus
 }

@@ -1,7 +1,8 @@
-//! The checker of a Lustre dialect: a safe wrapper of the one function that `libexports.a` exports (`include/wuroike.h`).
+//! The checker of a Lustre dialect: a safe wrapper of the two functions that `libexports.a` exports (`include/wuroike.h`).
 //!
-//! [`check`] is that function on borrowed slices. [`Checker`] owns the memory that it needs and [`Model`] owns a project's records, as a file
-//! holds them. No content of any argument makes a call fail: what is no project is refused, with the place.
+//! [`check`] and [`check_project`] are these functions on borrowed slices. They give the same answers; the first takes one pass over the
+//! project, the second one for each batch of lines. [`Checker`] owns the memory that a check needs and [`Model`] owns a project's records, as
+//! a file holds them. No content of any argument makes a call fail: what is no project is refused, with the place.
 //!
 //! A call takes at most [`STACK`] bytes of stack, which a thread has by default.
 #![deny(missing_docs)]
@@ -19,7 +20,7 @@ pub const RECORDS: usize = 4096;
 pub const TEXT: usize = 16384;
 /// Least words of work memory.
 pub const WORK: usize = 4096;
-/// Bytes of stack that are enough for every call: the most that was measured is 1,025,768 (docs/PERFORMANCE.md).
+/// Bytes of stack that are enough for every call: the most that was measured is 1,058,856 (docs/PERFORMANCE.md).
 pub const STACK: usize = 1_200_000;
 
 /// A line of the report.
@@ -169,6 +170,35 @@ extern "C" {
         first: *mut u64,
         second: *mut u64,
     ) -> u64;
+
+    fn wuroike_check_project(
+        kinds: *const u8,
+        kinds_length: usize,
+        words: *const u64,
+        words_length: usize,
+        text: *const u8,
+        text_length: usize,
+        work: *mut u64,
+        work_length: usize,
+        lines: *mut Line,
+        lines_length: usize,
+        first: *mut u64,
+        second: *mut u64,
+    ) -> u64;
+}
+
+/// The answer that the three numbers are.
+fn answer(refusal: u64, first: u64, second: u64) -> Result<Counts, Refusal> {
+    match refusal {
+        0 => Ok(Counts { lines: first as usize, followed: second }),
+        1 => Err(Refusal::Sizes),
+        2 => Err(Refusal::ShortWork(first)),
+        3 => Err(Refusal::BadName(first)),
+        4 => Err(Refusal::BadRecord(first)),
+        5 => Err(Refusal::NoProject(first)),
+        6 => Err(Refusal::TooDeep(first)),
+        _ => Err(Refusal::MoreLines(first)),
+    }
 }
 
 /// The check of a project whose records are `kinds` and `words`, with its names in `text`. After a report the first of `lines` are
@@ -195,16 +225,32 @@ pub fn check(kinds: &[u8], words: &[u64], text: &[u8], work: &mut [u64], lines: 
             &mut second,
         )
     };
-    match refusal {
-        0 => Ok(Counts { lines: first as usize, followed: second }),
-        1 => Err(Refusal::Sizes),
-        2 => Err(Refusal::ShortWork(first)),
-        3 => Err(Refusal::BadName(first)),
-        4 => Err(Refusal::BadRecord(first)),
-        5 => Err(Refusal::NoProject(first)),
-        6 => Err(Refusal::TooDeep(first)),
-        _ => Err(Refusal::MoreLines(first)),
-    }
+    answer(refusal, first, second)
+}
+
+/// The same check through the call that stores lines as structs, in batches of `work.len() / 6`: one pass over the project for each batch,
+/// where [`check`] takes one pass in all. Its answers and what it leaves are those of [`check`].
+pub fn check_project(kinds: &[u8], words: &[u64], text: &[u8], work: &mut [u64], lines: &mut [Line]) -> Result<Counts, Refusal> {
+    let (mut first, mut second) = (0, 0);
+    // SAFETY: each pointer is that of a live slice or number, with its own length, and `Line` has the layout of the library's line. The
+    // borrows keep what is written apart from all else.
+    let refusal = unsafe {
+        wuroike_check_project(
+            kinds.as_ptr(),
+            kinds.len(),
+            words.as_ptr(),
+            words.len(),
+            text.as_ptr(),
+            text.len(),
+            work.as_mut_ptr(),
+            work.len(),
+            lines.as_mut_ptr(),
+            lines.len(),
+            &mut first,
+            &mut second,
+        )
+    };
+    answer(refusal, first, second)
 }
 
 const _: () = assert!(std::mem::size_of::<Line>() == 48 && std::mem::align_of::<Line>() == 8);

@@ -1,15 +1,19 @@
-//! Every answer through the safe call, and what the lent memory holds after it.
-use wuroike::{check, Checker, Counts, Line, Model, Place, Refusal, WrongFile, STACK, WORK};
+//! Every answer through the two safe calls, and what the lent memory holds after them.
+use wuroike::{check, check_project, Checker, Counts, Line, Model, Place, Refusal, WrongFile, STACK, WORK};
 
 /// The loop a = b, b = a in an operator: document 01's example. Names are P, a, b, n.
 const KINDS: [u8; 23] = [1, 2, 3, 3, 3, 11, 3, 3, 7, 23, 3, 7, 23, 3, 13, 3, 8, 44, 13, 3, 8, 44, 3];
 const WORDS: [u64; 23] = [1, 0, 0, 0, 1, 3, 0, 1, 1, 0, 1, 2, 0, 2, 0, 1, 1, 2, 0, 1, 2, 1, 0];
 const TEXT: &[u8] = b"P\0a\0b\0n\0";
 
-/// The example with other work memory and room: the answer, and whether the work memory and how many first lines were written.
+/// The example with other work memory and room: the answer, and whether the work memory and how many first lines were written. Both calls
+/// answer and leave the same.
 fn ask(kinds: &[u8], words: &[u64], text: &[u8], work: usize, room: usize) -> (Result<Counts, Refusal>, bool, usize) {
     let (mut work, mut lines) = (vec![7; work], vec![Line::default(); room]);
+    let (mut again, mut stored) = (work.clone(), lines.clone());
     let told = check(kinds, words, text, &mut work, &mut lines);
+    assert_eq!(check_project(kinds, words, text, &mut again, &mut stored), told);
+    assert!(work == again && lines == stored);
     let zero = work.iter().all(|w| *w == 0);
     assert!(zero || work.iter().all(|w| *w == 7));
     let written = lines.iter().take_while(|l| **l != Line::default()).count();
@@ -58,8 +62,26 @@ fn too_deep() {
 
 #[test]
 fn nothing_lent() {
-    assert_eq!(check(&[], &[], &[], &mut [], &mut []), Err(Refusal::ShortWork(0)));
-    assert_eq!(check(&[], &[], &[], &mut [0; WORK], &mut []), Err(Refusal::NoProject(0)));
+    for call in [check, check_project] {
+        assert_eq!(call(&[], &[], &[], &mut [], &mut []), Err(Refusal::ShortWork(0)));
+        assert_eq!(call(&[], &[], &[], &mut [0; WORK], &mut []), Err(Refusal::NoProject(0)));
+    }
+}
+
+#[test]
+fn more_lines_than_a_batch() {
+    let model = Model::from_file(include_bytes!("../../../tests/library/cases/one-line-more.bin")).unwrap();
+    let (kinds, words, text) = (model.kinds(), model.words(), model.text());
+    let lines = Checker::new(1025).check(&model).unwrap().lines().len();
+    assert_eq!(lines, 1025);
+    for work in [WORK, 5000, 6 * lines - 1, 6 * lines] {
+        for room in [0, 1, WORK / 6 - 1, WORK / 6, WORK / 6 + 1, lines - 1] {
+            assert_eq!(ask(kinds, words, text, work, room), (Err(Refusal::MoreLines(1025)), true, room));
+        }
+        for room in [lines, lines + 1, 2 * lines] {
+            assert_eq!(ask(kinds, words, text, work, room).0.map(|c| c.lines), Ok(lines));
+        }
+    }
 }
 
 #[test]
@@ -73,20 +95,26 @@ fn files() {
     assert_eq!((model.name(0), model.name(1), model.name(u64::MAX)), (Some(&b"a"[..]), None, None));
 }
 
+/// How many lines a model's report has, by each call.
+fn counts(model: &Model, room: usize) -> [Result<usize, Refusal>; 2] {
+    let (mut work, mut lines) = (vec![0; WORK], vec![Line::default(); room]);
+    [check, check_project].map(|call| call(model.kinds(), model.words(), model.text(), &mut work, &mut lines).map(|c| c.lines))
+}
+
 #[test]
 fn threads_have_the_stack() {
     let deepest = || {
         let model = Model::from_file(include_bytes!("../../../tests/library/cases/deepest.bin")).unwrap();
-        Checker::new(58).check(&model).map(|r| r.lines().len())
+        counts(&model, 58)
     };
     let nested = || {
         let mut kinds = KINDS.to_vec();
         let mut words = WORDS.to_vec();
         kinds.splice(17..17, std::iter::repeat_n(46, 4096 - 23));
         words.splice(17..17, std::iter::repeat_n(0, 4096 - 23));
-        Checker::new(0).check(&Model::new(kinds, words, TEXT.to_vec())).map(|r| r.lines().len())
+        counts(&Model::new(kinds, words, TEXT.to_vec()), 0)
     };
     let small = || std::thread::Builder::new().stack_size(STACK);
-    assert_eq!(small().spawn(deepest).unwrap().join().unwrap(), Ok(58));
-    assert_eq!(small().spawn(nested).unwrap().join().unwrap(), Err(Refusal::TooDeep(77)));
+    assert_eq!(small().spawn(deepest).unwrap().join().unwrap(), [Ok(58); 2]);
+    assert_eq!(small().spawn(nested).unwrap().join().unwrap(), [Err(Refusal::TooDeep(77)); 2]);
 }

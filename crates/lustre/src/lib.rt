@@ -19,7 +19,9 @@ pub const AT_CONSTANT: u64 = 3;
 
 pub const AT_NODE: u64 = 4;
 
-// A line of the report. `equation`, `step` and `name`, a name's number, may be NONE.
+// A line of the report. `equation`, `step` and `name`, a name's number, may be NONE. Its layout is C's, so that `exports` can lend a slice of
+// lines.
+#[repr(C)]
 pub struct Line {
     pub code: u64,
     pub place: u64,
