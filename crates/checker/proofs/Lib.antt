@@ -1,4 +1,3 @@
-pub mod Again
 pub mod Local
 pub mod Turns
 pub mod Demands

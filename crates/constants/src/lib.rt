@@ -1,7 +1,7 @@
 // One constant, `check_constants`, lib.rs 262 to 325: E0003 for a name declared before, else E0004, the lines of inference as in a function,
 // and E0005. E0070 and E0146 are not asked of a constant's value.
 use body::contains_temporal;
-use infer::infer_side;
+use infer::infer;
 use lines::Spot;
 use lines::put_line;
 use loops::connect;
@@ -84,7 +84,9 @@ fn check_value(
     let start = d.next;
     let hint = hint_of(want);
     let m = check_static(kinds, words, start, q, out, n);
-    let r = infer_side(kinds, words, scope, start, hint, q, out, m);
+    let rk = &kinds[start..];
+    let rw = &words[start..];
+    let r = infer(kinds, words, scope, rk, rw, 0, hint, q, out, m);
     if r.ok {
         return check_fits(kinds, words, scope, at, want, r.typ, q, out, r.n);
     }

@@ -5,7 +5,7 @@ use body::check_pre;
 use body::contains_temporal;
 use body::immediate_reads;
 use body::nested_iterators;
-use infer::infer_side;
+use infer::infer;
 use lines::Spot;
 use lines::put_line;
 use loops::join_row;
@@ -184,7 +184,9 @@ fn check_type(
     ensures { λ r. ⌜ ((g : Sides-given (now (kinds .entry)) (now (words .entry)) (now (scope .entry)) list start) → Noted (g .left .scoped .model .number) q (type-notes g (q .function)) (now (out .entry)) n r (now (out .exit))) ⌝ }
 {
     let hint = declared_type(kinds, words, scope, list);
-    let r = infer_side(kinds, words, scope, start, hint, q, out, n);
+    let rk = &kinds[start..];
+    let rw = &words[start..];
+    let r = infer(kinds, words, scope, rk, rw, 0, hint, q, out, n);
     if r.ok {
         return check_bound(kinds, words, scope, list, hint, r.typ, q, out, r.n);
     }

@@ -12,7 +12,7 @@ use lib.Dec.{eqb}
 use lib.ListN.{length, getD}
 use lib.IntN.{ℤ}
 use borrow.Author.Tests.{eqb-true}
-use Rattle.lustre.specs.Types.{Ty, basic, levels, is-bool}
+use Rattle.lustre.specs.Types.{Ty, basic, levels, is-bool, is-integer}
 use Rattle.lustre.specs.Expr.{Literal, bool, int, float, char, UnaryOp, Not, Neg, BinOp, OpClass, op-class, Form, integer, temporal, iterator, other, form, literal-form, size}
 use Rattle.lustre.specs.Expr.{Expr, const, var, unary, binary, ite, pre, arrow, call, field, index, tuple, array, struct, cast, when, merge, iterate, iterate-from}
 use Rattle.lustre.specs.Grammar.{literal-kind, unary-kind, when-kind, op-kind}
@@ -29,7 +29,7 @@ use Rattle.standing.proofs.Sizes.{size-pos}
 use Rattle.lines.specs.Lines.{Noted}
 use Rattle.lines.specs.declared.Spot.{Spot}
 use Rattle.lines.proofs.Laws.{said-add}
-use Rattle.types.specs.Value.{Naming, asTy, bottom, Known, Bottom}
+use Rattle.types.specs.Value.{Naming, asTy, maybe, bottom, Known, Bottom}
 use Rattle.types.specs.Number.{numberOf, asHint, Hinted}
 use Rattle.types.specs.Place.{TypeAt, Read}
 use Rattle.types.specs.declared.Typ.{Typ}
@@ -89,6 +89,38 @@ plainly Γ at Neg (integer v) arg x h = absurd (h refl v refl)
 plainly Γ at Neg temporal arg x h = refl
 plainly Γ at Neg iterator arg x h = refl
 plainly Γ at Neg other arg x h = refl
+
+-- ---- hints that a branch picks
+
+-- y is what an operator hands its right operand, if l is the left type and x the left operand's hint
+pub record RightHint (l : Typ) (x y : Hint) : Type 0 where
+  pub holds : (ρ : Naming) → HintIs ρ (right-hint (asTy ρ l) (asHint ρ x)) (max (l .levels) (x .typ .levels)) y
+
+module _ {l : Typ} {x y : Hint} {b : Bool} (fb : (ρ : Naming) → b ≡ is-integer (asTy ρ l)) where
+  -- the left type, if it is an integer type
+  pub right-type : b ≡ true → {z : Hint} → ((ρ : Naming) → HintIs ρ (some (asTy ρ l)) (l .levels) z) → y ≡ z → RightHint l x y
+  unfolding right-hint
+  right-type t fz e = record { holds = λ ρ. let u = fz ρ in record { is = rw (e, ← fb ρ, t) (u .is); low = rw e (omega (arith, u .low)); known = rw e (u .known) } }
+
+  -- the left operand's hint, if not
+  pub right-same : b ≡ false → Known (x .typ) → y ≡ x → RightHint l x y
+  unfolding right-hint
+  right-same f k e = record { holds = λ ρ. record { is = rw (e, ← fb ρ, f) refl; low = rw e (omega arith); known = rw e k } }
+
+-- y is what the second of two parts gets, if x is the hint of both and l the first one's type
+pub record SecondHint (l : Typ) (x y : Hint) : Type 0 where
+  pub holds : (ρ : Naming) → HintIs ρ (or-else (asHint ρ x) (asTy ρ l)) (max (l .levels) (x .typ .levels)) y
+
+module _ {l : Typ} {x y : Hint} where
+  -- the first one's type, if there is no hint
+  pub second-type : x .given ≡ false → {z : Hint} → ((ρ : Naming) → HintIs ρ (some (asTy ρ l)) (l .levels) z) → y ≡ z → SecondHint l x y
+  unfolding maybe or-else
+  second-type f fz e = record { holds = λ ρ. let u = fz ρ in record { is = rw (e, f) (u .is); low = rw e (omega (arith, u .low)); known = rw e (u .known) } }
+
+  -- the hint, if there is one
+  pub second-same : x .given ≡ true → Known (x .typ) → y ≡ x → SecondHint l x y
+  unfolding maybe or-else
+  second-same t k e = record { holds = λ ρ. record { is = rw (e, t) refl; low = rw e (omega arith); known = rw e k } }
 
 -- ---- the place and its parts
 
@@ -339,10 +371,10 @@ module _ {ks ws sc pk pw : List ℕ} {at : ℕ} {h : Hint} (g : Given ks ws sc p
           pub bin-next : at + 1 < a .next
           bin-next = omega (arith, bin-1 .next f, size-pos (bin-w .a))
 
-          module _ {y : Hint} (fy : (ρ : Naming) → HintIs ρ (right-hint (asTy ρ (a .typ)) (asHint ρ x)) (max (a .typ .levels) (x .typ .levels)) y) where
+          module _ {y : Hint} (fy : RightHint (a .typ) x y) where
             bin-hint₂ : HintIs (g .W .text) (right-hint (asTy (g .W .text) (a .typ)) (sub-hint bin-class (asHint (g .W .text) h))) 127 y
             bin-hint₂ =
-                let u = fy (g .W .text) in
+                let u = fy .holds (g .W .text) in
                 record { is = u .is ∙ ap (right-hint (asTy (g .W .text) (a .typ))) (bin-hint .is); low = omega (arith, u .low, bin-left, bin-hint .low, g .low); known = u .known }
 
             pub bin-second : Given ks ws sc pk pw (a .next) y
@@ -633,7 +665,7 @@ module _ {ks ws sc pk pw : List ℕ} {at : ℕ} {h : Hint} (g : GivenBoth ks ws 
       pub both-next : at < a .next
       both-next = omega (arith, da both-first .next f, size-pos (g .a))
 
-      module _ {y : Hint} (fy : (ρ : Naming) → HintIs ρ (or-else (asHint ρ h) (asTy ρ (a .typ))) (max (a .typ .levels) (h .typ .levels)) y) where
+      module _ {y : Hint} (fy : SecondHint (a .typ) h y) where
         abbrev pub both-second : Given ks ws sc pk pw (a .next) y
         both-second = record {
           W = g .W;
@@ -643,14 +675,14 @@ module _ {ks ws sc pk pw : List ℕ} {at : ℕ} {h : Hint} (g : GivenBoth ks ws 
           top = g .top;
           deep = g .deep-b;
           casts = g .casts-b;
-          low = omega (arith, fy (g .W .text) .low, both-low, g .low);
-          known = fy (g .W .text) .known;
+          low = omega (arith, fy .holds (g .W .text) .low, both-low, g .low);
+          known = fy .holds (g .W .text) .known;
         }
 
         module _ {o₂ : List ℕ} {b : Inferred} (db : Inferring ks ws sc pk pw (a .next) y q o₁ (a .n) b o₂) where
           both-2 : Done (g .W .number) (g .W .text) q (infer (g .W .Γ) (q .function) (at + size (g .a)) (g .b) (or-else (asHint (g .W .text) h) (asTy (g .W .text) (a .typ)))) (at + size (g .a) + size (g .b)) (max (128 - g .d) (y .typ .levels)) o₁ (a .n) b o₂
           both-2 =
-              rw (fy (g .W .text) .is) at
+              rw (fy .holds (g .W .text) .is) at
               (subst (λ (j : ℕ). Done (g .W .number) (g .W .text) q (infer (g .W .Γ) (q .function) j (g .b) (asHint (g .W .text) y)) (j + size (g .b)) (max (128 - g .d) (y .typ .levels)) o₁ (a .n) b o₂) (da both-first .next f) (db both-second))
 
           pub both-stop₂ : (step code : ℕ) → b .ok ≡ false → Pair step code q o n b o₂

@@ -18,8 +18,6 @@ use rules::hints::basic_hint;
 use rules::hints::element_hint;
 use rules::hints::hint_of;
 use rules::hints::no_hint;
-use rules::hints::or_else;
-use rules::hints::right_hint;
 use rules::hints::sub_hint;
 use rules::index_rule;
 use rules::is_truth;
@@ -51,6 +49,7 @@ use types::Hint;
 use types::Typ;
 use types::array_of;
 use types::bottom_of;
+use types::is_integer;
 use types::literal::integer_literal_type;
 use types::literal::literal_type;
 use types::records::read_type;
@@ -66,7 +65,7 @@ ghost use Rattle.types.specs.Value.{Known};
 ghost use Rattle.types.specs.Number.{asHint};
 ghost use Rattle.rules.specs.Post.{Given, Done, Inferring};
 ghost use Rattle.rules.specs.Lists.{GivenArg, DoneArg, GivenArgs, DoneArgs, DoneItem, GivenItems, DoneItems, GivenValue, DoneValue, GivenValues, DoneValues, GivenArrays, DoneArrays};
-ghost use Rattle.infer.specs.Post.{Kind, GivenBoth, DoneBoth, GivenGather, DoneGather, GivenWhole};
+ghost use Rattle.infer.specs.Post.{Kind, GivenBoth, DoneBoth, GivenGather, DoneGather};
 
 // What an iterator has before its last tests: if ok, the list of its function's inputs, the type of its output, what is kept of the
 // arrays, and where the next record is; and the number of lines so far.
@@ -217,7 +216,7 @@ fn unary(
     }
 }
 
-// A binary operator, lib.rs 805.
+// A binary operator, lib.rs 805: h is the left operand's hint and then the right one's, lib.rs 818.
 fn binary(
     kinds: &[u8],
     words: &[u64],
@@ -235,12 +234,14 @@ fn binary(
 {
     let k = rk[at];
     let class = class_no(k);
-    let h = sub_hint(class, hint);
+    let mut h = sub_hint(class, hint);
     let a = infer(kinds, words, scope, rk, rw, at + 1, h, q, out, n);
     if a.ok {
         let l = a.typ;
-        let g = right_hint(l, h);
-        let b = infer(kinds, words, scope, rk, rw, a.next, g, q, out, a.n);
+        if is_integer(l) {
+            h = hint_of(l);
+        }
+        let b = infer(kinds, words, scope, rk, rw, a.next, h, q, out, a.n);
         if b.ok {
             let r = b.typ;
             operands(kinds, words, scope, class, l, r, at, b.next, q, out, b.n)
@@ -270,11 +271,14 @@ fn both(
     requires { ⌜ GivenBoth (now kinds) (now words) (now scope) (now rk) (now rw) first hint × (length (now rk) ≤ 4096) ⌝ }
     ensures { λ r. ⌜ DoneBoth (now (kinds .entry)) (now (words .entry)) (now (scope .entry)) (now (rk .entry)) (now (rw .entry)) first step code hint q (now (out .entry)) n r (now (out .exit)) ⌝ }
 {
-    let a = infer(kinds, words, scope, rk, rw, first, hint, q, out, n);
+    let mut h = hint;
+    let a = infer(kinds, words, scope, rk, rw, first, h, q, out, n);
     if a.ok {
         let l = a.typ;
-        let g = or_else(hint, l);
-        let b = infer(kinds, words, scope, rk, rw, a.next, g, q, out, a.n);
+        if !h.given {
+            h = hint_of(l);
+        }
+        let b = infer(kinds, words, scope, rk, rw, a.next, h, q, out, a.n);
         if b.ok {
             let r = b.typ;
             agree_rule(kinds, words, scope, code, l, r, step, b.next, q, out, b.n)
@@ -1188,23 +1192,4 @@ pub fn infer(
         83 => iter_from(kinds, words, scope, rk, rw, at, hint, q, out, n),
         _ => binary(kinds, words, scope, rk, rw, at, hint, q, out, n),
     }
-}
-
-// The right-hand side that starts at a record: its steps count from there.
-pub fn infer_side(
-    kinds: &[u8],
-    words: &[u64],
-    scope: &[u64],
-    start: usize,
-    hint: Hint,
-    q: Spot,
-    out: &mut [u64],
-    n: u64,
-) -> Inferred
-    requires { ⌜ GivenWhole (now kinds) (now words) (now scope) start hint ⌝ }
-    ensures { λ r. ⌜ ((g : GivenWhole (now (kinds .entry)) (now (words .entry)) (now (scope .entry)) start hint) → Done (g .W .number) (g .W .text) q (infer-of (g .W .Γ) (q .function) 0 (g .e) (asHint (g .W .text) hint)) (size (g .e)) 127 (now (out .entry)) n r (now (out .exit))) ⌝ }
-{
-    let rk = &kinds[start..];
-    let rw = &words[start..];
-    infer(kinds, words, scope, rk, rw, 0, hint, q, out, n)
 }

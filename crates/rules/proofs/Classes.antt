@@ -43,6 +43,14 @@ class-rank BitXor = refl
 class-rank Shl = refl
 class-rank Shr = refl
 
+pub is-equality : (c : OpClass) → rank c ≡ 1 → c ≡ Equality
+unfolding rank
+is-equality Logic e = absurd (omega (arith, e))
+is-equality Equality e = refl
+is-equality Order e = absurd (omega (arith, e))
+is-equality Arithmetic e = absurd (omega (arith, e))
+is-equality Bitwise e = absurd (omega (arith, e))
+
 pub fault-is : (c : OpClass) {k : ℕ} → rank c ≡ k → fault c ≡ k + 83
 unfolding rank fault
 fault-is Logic e = omega arith
@@ -59,14 +67,6 @@ module _ (s t : Ty) {k : ℕ} where
   meets-logic Order e h = absurd (omega arith)
   meets-logic Arithmetic e h = absurd (omega arith)
   meets-logic Bitwise e h = absurd (omega arith)
-
-  pub meets-equality : (c : OpClass) → rank c ≡ k → k ≡ 1 → meets c s t ≡ same-type s t
-  unfolding rank meets
-  meets-equality Logic e h = absurd (omega arith)
-  meets-equality Equality e h = refl
-  meets-equality Order e h = absurd (omega arith)
-  meets-equality Arithmetic e h = absurd (omega arith)
-  meets-equality Bitwise e h = absurd (omega arith)
 
   pub meets-bitwise : (c : OpClass) → rank c ≡ k → k ≡ 4 → meets c s t ≡ (is-integer s && is-integer t && same-type s t)
   unfolding rank meets

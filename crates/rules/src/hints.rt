@@ -4,13 +4,12 @@ use types::Typ;
 use types::aliases::resolve;
 use types::bottom_of;
 use types::element;
-use types::is_integer;
 ghost use mathlib.Core.Path.{_≡_};
 ghost use mathlib.Core.Option.{none, some};
 ghost use Prim.Native.Nat.{_-_, max};
 ghost use Rattle.lustre.specs.Types.{basic};
 ghost use Rattle.lustre.specs.Expr.{OpClass};
-ghost use Rattle.lustre.specs.Infer.{or-else, sub-hint, right-hint, element-hint};
+ghost use Rattle.lustre.specs.Infer.{sub-hint, element-hint};
 ghost use Rattle.types.specs.Value.{Naming, asTy, Known};
 ghost use Rattle.types.specs.Number.{asHint};
 ghost use Rattle.rules.specs.World.{World};
@@ -42,20 +41,6 @@ pub fn hint_of(typ: Typ) -> Hint
     Hint { given: true, typ }
 }
 
-// The hint, or else the type t: `else_hint`, lib.rs 917.
-pub fn or_else(hint: Hint, t: Typ) -> Hint
-    requires { ⌜ Known (hint .typ) × Known t ⌝ }
-    ensures { λ r. ⌜ ((ρ : Naming) → HintIs ρ (or-else (asHint ρ hint) (asTy ρ t)) (max (t .levels) (hint .typ .levels)) r) ⌝ }
-{
-    if hint.given {
-        return hint;
-    }
-    Hint {
-        given: true,
-        typ: t,
-    }
-}
-
 // What an operator hands its left operand, `sub_hint`, lib.rs 809.
 pub fn sub_hint(class: u64, hint: Hint) -> Hint
     requires { ⌜ Known (hint .typ) ⌝ }
@@ -63,20 +48,6 @@ pub fn sub_hint(class: u64, hint: Hint) -> Hint
 {
     if class < 3 {
         return no_hint();
-    }
-    hint
-}
-
-// What an operator hands its right operand, `rhs_hint`, lib.rs 818: the left type l, as it stands, if it is an integer type.
-pub fn right_hint(l: Typ, hint: Hint) -> Hint
-    requires { ⌜ Known l × Known (hint .typ) ⌝ }
-    ensures { λ r. ⌜ ((ρ : Naming) → HintIs ρ (right-hint (asTy ρ l) (asHint ρ hint)) (max (l .levels) (hint .typ .levels)) r) ⌝ }
-{
-    if is_integer(l) {
-        return Hint {
-            given: true,
-            typ: l,
-        };
     }
     hint
 }

@@ -28,7 +28,7 @@ ghost use Rattle.lustre.specs.Name.{if_then_else_};
 ghost use lib.Dec.{eqb, leb};
 ghost use lib.ListN.{length, getD};
 ghost use Rattle.lustre.specs.Types.{within, is-bool, is-integer};
-ghost use Rattle.lustre.specs.Expr.{UnaryOp, BinOp, OpClass, op-class};
+ghost use Rattle.lustre.specs.Expr.{UnaryOp, BinOp, OpClass, Equality, op-class};
 ghost use Rattle.lustre.specs.Grammar.{unary-kind, op-kind};
 ghost use Rattle.lustre.specs.Line.{plain, named, require};
 ghost use Rattle.lustre.specs.Answer.{no-value};
@@ -245,14 +245,12 @@ pub fn class_no(k: u8) -> u64
     4
 }
 
-// Whether the types l and r of operands are what their class asks once resolved, lib.rs 823 to 897. All but equality asks for basic types.
+// Whether the types l and r of operands are what their class asks once resolved, lib.rs 823 to 897. Every class but equality asks for basic
+// types of one kind.
 fn meets(kinds: &[u8], words: &[u64], scope: &[u64], class: u64, l: Typ, r: Typ) -> bool
-    requires { ⌜ World (now kinds) (now words) (now scope) × (l .levels ≤ 127) ⌝ }
+    requires { ⌜ World (now kinds) (now words) (now scope) × (class ≡ 1 → ⊥) ⌝ }
     ensures { λ b. ⌜ ((c : OpClass) → rank c ≡ class → (W : World (now (kinds .entry)) (now (words .entry)) (now (scope .entry))) → b ≡ meets-class c (res (W .Γ) (asTy (W .text) l)) (res (W .Γ) (asTy (W .text) r))) ⌝ }
 {
-    if class == 1 {
-        return compatible(kinds, words, scope, l, r);
-    }
     let x = basic_kind(kinds, words, scope, l);
     let y = basic_kind(kinds, words, scope, r);
     if x != y {
@@ -265,6 +263,34 @@ fn meets(kinds: &[u8], words: &[u64], scope: &[u64], class: u64, l: Typ, r: Typ)
         return is_between(x, 21, 28);
     }
     is_between(x, 21, 30)
+}
+
+// `=` and `<>` on operands of types l and r, lib.rs 841: E0084.
+fn equality(
+    kinds: &[u8],
+    words: &[u64],
+    scope: &[u64],
+    l: Typ,
+    r: Typ,
+    at: usize,
+    next: usize,
+    q: Spot,
+    out: &mut [u64],
+    n: u64,
+) -> Inferred
+    requires { ⌜ World (now kinds) (now words) (now scope) × (l .levels ≤ 127) ⌝ }
+    ensures { λ a. ⌜ Ruled (now (kinds .entry)) (now (words .entry)) (now (scope .entry)) q (λ W. operands-of (W .Γ) at Equality (asTy (W .text) l) (asTy (W .text) r)) next (l .levels) (now (out .entry)) n a (now (out .exit)) ⌝ }
+{
+    if compatible(kinds, words, scope, l, r) {
+        let typ = bottom_of(20, 0);
+        return Inferred {
+            ok: true,
+            typ,
+            next,
+            n,
+        };
+    }
+    fail_plain(out, q, n, 84, at)
 }
 
 // A binary operator on operands of types l and r, lib.rs 805: E0083 to E0087.
@@ -284,6 +310,9 @@ pub fn operands(
     requires { ⌜ World (now kinds) (now words) (now scope) × (l .levels ≤ 127) × Known l × (class ≤ 4) ⌝ }
     ensures { λ a. ⌜ ((c : OpClass) → rank c ≡ class → Ruled (now (kinds .entry)) (now (words .entry)) (now (scope .entry)) q (λ W. operands-of (W .Γ) at c (asTy (W .text) l) (asTy (W .text) r)) next (l .levels) (now (out .entry)) n a (now (out .exit))) ⌝ }
 {
+    if class == 1 {
+        return equality(kinds, words, scope, l, r, at, next, q, out, n);
+    }
     if meets(kinds, words, scope, class, l, r) {
         if class < 3 {
             let typ = bottom_of(20, 0);

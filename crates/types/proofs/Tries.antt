@@ -12,7 +12,7 @@ use Rattle.lustre.specs.Types.{Ty, Named}
 use Rattle.lustre.specs.Resolve.{Aliases, array-of, follow-alias, try-resolve, or-itself, resolve}
 use Rattle.types.specs.Value.{Naming, bottom, up, asTy, maybe, Known, Around}
 use Rattle.types.specs.Place.{tyAt, Read}
-use Rattle.types.specs.Scope.{slot, target, Table, Tries, Resolves, isSome}
+use Rattle.types.specs.Scope.{slot, target, Table, Tries, Resolves}
 use Rattle.types.specs.declared.Typ.{Typ}
 use Rattle.types.proofs.Truths.{never}
 use Rattle.types.proofs.Values.{bottom-basic, bottom-name}
@@ -174,14 +174,3 @@ module _ {ks ws sc : List ℕ} (t : Typ) where
       known = λ k. k;
       is = λ ρ al T. ap (or-itself (asTy ρ t)) (rw o at (q .is ρ al T));
     }
-
--- ---- `resolves`
-
-pub name-resolves : {ks ws sc : List ℕ} {t r : Typ} {ok : Bool} (n : ℕ) → ((ρ : Naming) → asTy ρ t ≡ bottom ρ 33 n) → Tries ks ws sc t ok r →
-    (ρ : Naming) (al : Aliases) → Table ρ al ks ws sc → ok ≡ isSome (try-resolve al 65 [] (Named (ρ n)))
-unfolding bottom maybe
-name-resolves {r = r} {ok = ok} n p q ρ al T = go ok ∙ ap isSome (q .is ρ al T ∙ ap (try-resolve al 65 []) (p ρ))
-  where
-    go : (b : Bool) → b ≡ isSome (maybe ρ b r)
-    go true = refl
-    go false = refl

@@ -1,4 +1,4 @@
--- `checker::check_project` meets its contract: a walk of its MIR, by hand. The kinds and the words stand at two lifetimes, and the reader has one: each is lent again for a lifetime ν of the walk (`Again.antt`), `new` makes a reader at ν, and `check_reader` goes through it. Then ν is ended, and the tokens come back. The work memory and the lines go to `check_reader` for good.
+-- `checker::check_project` meets its contract: a walk of its MIR, by hand. The kinds and the words stand at two lifetimes, and the reader has one: each is lent again for a lifetime ν of the walk (reader's `Again.antt`), `new` makes a reader at ν, and `check_reader` goes through it. Then ν is ended, and the tokens come back. The work memory and the lines go to `check_reader` for good.
 -- All that the proof knows of `new` and `check_reader` is that they meet their contracts.
 -- Assumes nothing.
 use mathlib.Core.Path.{_≡_, refl, _∙_}
@@ -55,7 +55,7 @@ use Rattle.reader.proofs.new.Symbol as new-def
 use Rattle.reader.proofs.new.Symbol.{name as #reader·new}
 use Rattle.reader.proofs.new.Met as new-thm
 use Rattle.checker.specs.Call.{Checked}
-use Rattle.checker.proofs.Again.{LentPart, shr-lends, shr-ends}
+use Rattle.reader.proofs.Again.{LentPart, shr-lends, shr-ends}
 use Rattle.checker.proofs.check_reader as check-reader
 use Rattle.checker.proofs.check_reader.Symbol as check-reader-def
 use Rattle.checker.proofs.check_reader.Symbol.{name as #checker·check-reader}

@@ -6,6 +6,7 @@ use Rattle.lustre.specs.Resolve.{context}
 use Rattle.lustre.specs.Node.{bound}
 use Rattle.lines.proofs.Laws.{noted-none}
 use Rattle.rules.proofs.Laws.{maybe-no, maybe-yes}
+use Rattle.infer.proofs.Sides as sides
 use Rattle.equations.proofs.Types.{sides-whole, said-then-noted, bound-nothing}
 use Rattle.equations.proofs.check_type.Statement.{statement}
 use Rattle.equations.proofs.check_type.Tie as tie
@@ -13,11 +14,34 @@ use Rattle.equations.proofs.check_type.Tie as tie
 declared-type-requires : tie.Need-declared-type-requires
 declared-type-requires c κs = search needs
 
-infer-side-requires : tie.Need-infer-side-requires
-infer-side-requires c κs = sides-whole (c .before .before .before .before .before .before .pre) (c .before .declared-type .ensures (c .before .before .before .before .before .before .pre .left))
+sub-rk : tie.Need-sub-rk
+sub-rk c = omega (arith, sides.side-inside (sides-whole (c .before .before .before .before .before .pre) (c .declared-type .ensures (c .before .before .before .before .before .pre .left))))
+
+part-rk-start : tie.Need-part-rk-start
+part-rk-start c = omega (arith, sides.side-inside (sides-whole (c .before .before .before .before .before .pre) (c .declared-type .ensures (c .before .before .before .before .before .pre .left))))
+
+part-rk-end : tie.Need-part-rk-end
+part-rk-end c = search needs
+
+mul-rw : tie.Need-mul-rw
+mul-rw c = omega (arith, sides.side-words (sides-whole (c .before .before .before .before .before .before .pre) (c .before .declared-type .ensures (c .before .before .before .before .before .before .pre .left))))
+
+sub-rw : tie.Need-sub-rw
+sub-rw c = omega (arith, sides.side-words (sides-whole (c .before .before .before .before .before .before .pre) (c .before .declared-type .ensures (c .before .before .before .before .before .before .pre .left))))
+
+part-rw-start : tie.Need-part-rw-start
+part-rw-start c = omega (arith, sides.side-words (sides-whole (c .before .before .before .before .before .before .pre) (c .before .declared-type .ensures (c .before .before .before .before .before .before .pre .left))))
+
+part-rw-end : tie.Need-part-rw-end
+part-rw-end c = search needs
+
+infer-requires : tie.Need-infer-requires
+infer-requires c κs =
+    let w = sides-whole (c .before .before .before .before .before .before .before .before .pre) (c .before .before .before .declared-type .ensures (c .before .before .before .before .before .before .before .before .pre .left)) in
+    (sides.side-given w, sides.side-few w)
 
 check-bound-requires : tie.Need-check-bound-requires
-check-bound-requires c κs = (c .before .before .before .before .before .before .before .before .before .before .before .pre .left, omega (arith, c .before .before .before .before .before .before .declared-type .ensures (c .before .before .before .before .before .before .before .before .before .before .before .pre .left) .low))
+check-bound-requires c κs = (c .before .before .before .before .before .before .before .before .before .before .before .before .before .pre .left, omega (arith, c .before .before .before .before .before .before .before .before .declared-type .ensures (c .before .before .before .before .before .before .before .before .before .before .before .before .before .pre .left) .low))
 
 same-length : tie.Need-same-length
 same-length c = search needs
@@ -26,8 +50,8 @@ returns : tie.Need-returns
 returns c =
     λ g.
     let w = g .left .scoped in
-    let h = c .before .before .before .before .before .before .before .before .before .declared-type .ensures (g .left) in
-    let d = c .before .before .before .before .before .before .before .infer-side .ensures (sides-whole g h) in
+    let h = c .before .before .before .before .before .before .before .before .before .before .before .declared-type .ensures (g .left) in
+    let d = sides.side-done (sides-whole g h) (c .before .before .before .before .before .before .before .infer .ensures) in
     said-then-noted (bound (context (skeleton (w .model .P))) (w .env) (g .left .xs)) (maybe-yes (w .model .text) _ (c .before .before .before .before .if1 .taken)) (rw (h .is) at (d .said)) (c .before .before .check-bound .ensures (g .left) (h .is))
 
 same-length-2 : tie.Need-same-length-2
@@ -37,8 +61,8 @@ returns-2 : tie.Need-returns-2
 returns-2 c =
     λ g.
     let w = g .left .scoped in
-    let h = c .before .before .before .before .before .declared-type .ensures (g .left) in
-    let d = c .before .before .before .infer-side .ensures (sides-whole g h) in
+    let h = c .before .before .before .before .before .before .before .declared-type .ensures (g .left) in
+    let d = sides.side-done (sides-whole g h) (c .before .before .before .infer .ensures) in
     said-then-noted (bound (context (skeleton (w .model .P))) (w .env) (g .left .xs)) (maybe-no (w .model .text) _ (c .if1 .left)) (rw (h .is) at (d .said)) (rw (bound-nothing (context (skeleton (w .model .P))) (w .env) (g .left .xs)) noted-none)
 
 pub check-type-spec : {M : Type 1} → statement M
@@ -46,7 +70,14 @@ check-type-spec =
     tie.close
     (tie.spec
     declared-type-requires
-    infer-side-requires
+    sub-rk
+    part-rk-start
+    part-rk-end
+    mul-rw
+    sub-rw
+    part-rw-start
+    part-rw-end
+    infer-requires
     check-bound-requires
     same-length
     returns

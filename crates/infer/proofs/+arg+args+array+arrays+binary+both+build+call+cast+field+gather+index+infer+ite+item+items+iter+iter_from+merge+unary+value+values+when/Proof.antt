@@ -176,7 +176,8 @@ pub +arg+args+array+arrays+binary+both+build+call+cast+field+gather+index+infer+
     (Binary.binary-sub-hint-requires t)
     (Binary.binary-add-infer t)
     (Binary.binary-infer-requires t)
-    (Binary.binary-right-hint-requires t)
+    (Binary.binary-is-integer-requires t)
+    (Binary.binary-hint-of-requires t)
     (Binary.binary-infer-requires-2 t)
     (Binary.binary-operands-requires t)
     (Binary.binary-same-length t)
@@ -188,7 +189,7 @@ pub +arg+args+array+arrays+binary+both+build+call+cast+field+gather+index+infer+
     (λ t. both-lts.spec (both-claims t) (both-at t)
     both.Post
     (Both.both-infer-requires t)
-    (Both.both-or-else-requires t)
+    (Both.both-hint-of-requires t)
     (Both.both-infer-requires-2 t)
     (Both.both-agree-rule-requires t)
     (Both.both-same-length t)

@@ -88,8 +88,6 @@ use Rattle.rules.proofs.hints.basic_hint.Reads as basic-hint-reads
 use Rattle.rules.proofs.hints.element_hint.Reads as element-hint-reads
 use Rattle.rules.proofs.hints.hint_of.Reads as hint-of-reads
 use Rattle.rules.proofs.hints.no_hint.Reads as no-hint-reads
-use Rattle.rules.proofs.hints.or_else.Reads as or-else-reads
-use Rattle.rules.proofs.hints.right_hint.Reads as right-hint-reads
 use Rattle.rules.proofs.hints.sub_hint.Reads as sub-hint-reads
 use Rattle.rules.proofs.index_rule.Reads as index-rule-reads
 use Rattle.rules.proofs.is_truth.Reads as is-truth-reads
@@ -115,6 +113,7 @@ use Rattle.rules.proofs.unless_agrees.Reads as unless-agrees-reads
 use Rattle.standing.proofs.skip.Reads as skip-reads
 use Rattle.types.proofs.array_of.Reads as array-of-reads
 use Rattle.types.proofs.bottom_of.Reads as bottom-of-reads
+use Rattle.types.proofs.is_integer.Reads as is-integer-reads
 use Rattle.types.proofs.literal.integer_literal_type.Reads as integer-literal-type-reads
 use Rattle.types.proofs.records.read_type.Reads as read-type-reads
 
@@ -339,10 +338,10 @@ abbrev pub arrays-claims : ℕ → arrays-lts.Claims
 arrays-claims t = (no-hint-reads.Asked, no-hint-reads.Learnt, kept-none-reads.Asked, kept-none-reads.Learnt, infer-below t, infer.Post, input-at-reads.Asked, input-at-reads.Learnt, take-array-reads.Asked, take-array-reads.Learnt)
 
 abbrev pub binary-claims : ℕ → binary-lts.Claims
-binary-claims t = (class-no-reads.Asked, class-no-reads.Learnt, sub-hint-reads.Asked, sub-hint-reads.Learnt, infer-below t, infer.Post, right-hint-reads.Asked, right-hint-reads.Learnt, operands-reads.Asked, operands-reads.Learnt)
+binary-claims t = (class-no-reads.Asked, class-no-reads.Learnt, sub-hint-reads.Asked, sub-hint-reads.Learnt, infer-below t, infer.Post, is-integer-reads.Asked, is-integer-reads.Learnt, hint-of-reads.Asked, hint-of-reads.Learnt, operands-reads.Asked, operands-reads.Learnt)
 
 abbrev pub both-claims : ℕ → both-lts.Claims
-both-claims t = (infer-below t, infer.Post, or-else-reads.Asked, or-else-reads.Learnt, agree-rule-reads.Asked, agree-rule-reads.Learnt)
+both-claims t = (infer-below t, infer.Post, hint-of-reads.Asked, hint-of-reads.Learnt, agree-rule-reads.Asked, agree-rule-reads.Learnt)
 
 abbrev pub build-claims : ℕ → build-lts.Claims
 build-claims t = (struct-name-reads.Asked, struct-name-reads.Learnt, record-of-reads.Asked, record-of-reads.Learnt, values-below t, values.Post, missing-reads.Asked, missing-reads.Learnt, bottom-of-reads.Asked, bottom-of-reads.Learnt, no-type-reads.Asked, no-type-reads.Learnt)
