@@ -1118,10 +1118,10 @@ fn iter_from(
             if f.ok {
                 let acc = f.acc;
                 let elem = f.elem;
-                let h = hint_of(acc);
-                let a = infer(kinds, words, scope, rk, rw, p, h, q, out, f.n);
+                let mut seed = hint_of(acc);
+                let a = infer(kinds, words, scope, rk, rw, p, seed, q, out, f.n);
                 let t = a.typ;
-                let seed = Hint {
+                seed = Hint {
                     given: a.ok,
                     typ: t,
                 };
