@@ -5,57 +5,20 @@
  * Passes are counted as crates/staging makes them: the first counts all lines and writes the first batch, each further batch is one more. The
  * cost of a further pass is taken from the difference of the two calls, since wuroike_check takes one. */
 #include <inttypes.h>
-#include <stdio.h>
 #include <stdlib.h>
-#include <string.h>
-#include <time.h>
 
-#include "wuroike.h"
+#include "model.h"
 
-enum { ROOM = 131072, PLACES = 100200, LONGEST = 8 + 9 * WUROIKE_RECORDS + WUROIKE_TEXT, LEAST = 3, MOST = 2001 };
+enum { ROOM = 131072, PLACES = 100200, LEAST = 3, MOST = 2001 };
 
-static uint8_t file[LONGEST + 1];
-static uint64_t words[WUROIKE_RECORDS];
 static uint64_t work[PLACES * WUROIKE_LINE];
 static wuroike_line lines[2][ROOM];
-static size_t records, text_length;
 static double times[2][MOST];
 
 /* What a call says. */
 struct answer {
     uint64_t refusal, first, second;
 };
-
-/* Nanoseconds. */
-static double now(void) {
-    struct timespec t;
-    clock_gettime(CLOCK_MONOTONIC, &t);
-    return t.tv_sec * 1e9 + t.tv_nsec;
-}
-
-static int order(const void *a, const void *b) {
-    double x = *(const double *)a, y = *(const double *)b;
-    return (x > y) - (x < y);
-}
-
-/* Reads a model; 0 if it can't. */
-static int read_model(const char *path) {
-    FILE *in = fopen(path, "rb");
-    if (in == NULL) {
-        return 0;
-    }
-    size_t length = fread(file, 1, sizeof file, in);
-    fclose(in);
-    uint32_t sizes[2] = {0, 0};
-    memcpy(sizes, file, 8);
-    records = sizes[0];
-    text_length = sizes[1];
-    if (length < 8 || records > WUROIKE_RECORDS || text_length > WUROIKE_TEXT || length != 8 + 9 * records + text_length) {
-        return 0;
-    }
-    memcpy(words, file + 8 + records, 8 * records);
-    return 1;
-}
 
 /* One call, 0 of wuroike_check_project and 1 of wuroike_check; its time is kept as the k-th. */
 static struct answer call(int which, int k, size_t work_length, size_t room) {

@@ -2,19 +2,14 @@
  * runs in a thread whose stack was filled with a pattern, and the bytes from the lowest one changed up to the caller's frame are counted. */
 #include <inttypes.h>
 #include <pthread.h>
-#include <stdio.h>
 #include <stdlib.h>
-#include <string.h>
 
-#include "wuroike.h"
+#include "model.h"
 
-enum { SIZE = 16 << 20, ROOM = 1024, LONGEST = 8 + 9 * WUROIKE_RECORDS + WUROIKE_TEXT, PATTERN = 0xA5 };
+enum { SIZE = 16 << 20, ROOM = 1024, PATTERN = 0xA5 };
 
-static uint8_t file[LONGEST + 1];
-static uint64_t words[WUROIKE_RECORDS];
 static uint64_t work[WUROIKE_WORK];
 static wuroike_line lines[ROOM];
-static size_t records, text_length;
 static uint64_t refusal, first, second;
 static uint8_t *top;
 
@@ -50,25 +45,6 @@ static ptrdiff_t peak(void *(*thread)(void *), pthread_attr_t *attributes, uint8
     return top - low;
 }
 
-/* Reads a model; 0 if it can't. */
-static int read_model(const char *path) {
-    FILE *in = fopen(path, "rb");
-    if (in == NULL) {
-        return 0;
-    }
-    size_t length = fread(file, 1, sizeof file, in);
-    fclose(in);
-    uint32_t sizes[2];
-    memcpy(sizes, file, 8);
-    records = sizes[0];
-    text_length = sizes[1];
-    if (length < 8 || records > WUROIKE_RECORDS || text_length > WUROIKE_TEXT || length != 8 + 9 * records + text_length) {
-        return 0;
-    }
-    memcpy(words, file + 8 + records, 8 * records);
-    return 1;
-}
-
 int main(int count, char **paths) {
     uint8_t *stack = aligned_alloc(4096, SIZE);
     pthread_attr_t attributes;
@@ -84,8 +60,7 @@ int main(int count, char **paths) {
         if (flat == 0 || structs == 0) {
             return 3;
         }
-        const char *name = strrchr(paths[i], '/');
-        printf("%9td %9td  %5zu records  answer %" PRIu64 " %" PRIu64 "  %s\n", flat, structs, records, refusal, first, name ? name + 1 : paths[i]);
+        printf("%9td %9td  %5zu records  answer %" PRIu64 " %" PRIu64 "  %s\n", flat, structs, records, refusal, first, name_of(paths[i]));
     }
     return 0;
 }
