@@ -54,17 +54,19 @@ enum wuroike_place {
     WUROIKE_NODE = 4
 };
 
-/* What a call returns: a report, or the lowest refusal that applies. */
+/* What a call returns: a report, or the lowest refusal that applies, where 8 stands beside 4, before 5. */
 enum wuroike_answer {
     WUROIKE_REPORT = 0,     /* first: the number of lines; second: the number of edges that the search for loops followed */
     WUROIKE_SIZES = 1,      /* kinds and words differ in number, or too many records or bytes of text. first: 0 */
     WUROIKE_SHORT_WORK = 2, /* fewer than 4,096 words of work memory. first: how many */
     WUROIKE_BAD_NAME = 3,   /* a name is not 1 to 64 bytes closed by a zero byte, is not above the one before it in byte order, is a
                                reserved one, or is the 513th. first: its number */
-    WUROIKE_BAD_RECORD = 4, /* an unknown kind, or a word outside its kind's range. first: the record */
+    WUROIKE_BAD_KIND = 4,   /* the first bad record has an unknown kind. first: the record */
     WUROIKE_NO_PROJECT = 5, /* the records are not one project. first: the first that can't stand there, or their number */
     WUROIKE_TOO_DEEP = 6,   /* a type of more than 68 levels or an expression of more than 60. first: the first record too deep */
-    WUROIKE_MORE_LINES = 7  /* the report has more lines than were lent. first: how many it has, at most 2^64 - 1 */
+    WUROIKE_MORE_LINES = 7, /* the report has more lines than were lent. first: how many it has, at most 2^64 - 1 */
+    WUROIKE_BAD_WORD = 8    /* the first bad record has a known kind and a word outside its range, such as a name number that is too
+                               large. first: the record */
 };
 
 /* Checks a project.

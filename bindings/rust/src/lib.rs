@@ -89,7 +89,7 @@ impl Line {
     }
 }
 
-/// Why a project gets no report: the lowest refusal that applies, with its place.
+/// Why a project gets no report: the first of these that applies, with its place.
 #[derive(Clone, Copy, Debug, PartialEq, Eq, Hash)]
 pub enum Refusal {
     /// 1: kinds and words differ in number, or too many records or bytes of text.
@@ -98,8 +98,10 @@ pub enum Refusal {
     ShortWork(u64),
     /// 3: this name is no name, or not above the one before it in byte order, or the 513th.
     BadName(u64),
-    /// 4: this record has an unknown kind, or a word outside its kind's range.
-    BadRecord(u64),
+    /// 4: this record, the first bad one, has an unknown kind.
+    BadKind(u64),
+    /// 8: this record, the first bad one, has a known kind and a word outside its range, such as a name number that is too large.
+    BadWord(u64),
     /// 5: the records are not one project; this is the first that can't stand there.
     NoProject(u64),
     /// 6: a type of more than 68 levels or an expression of more than 60; this is the first record too deep.
@@ -109,13 +111,14 @@ pub enum Refusal {
 }
 
 impl Refusal {
-    /// Its number, 1 to 7.
+    /// Its number, 1 to 8.
     pub fn number(self) -> u64 {
         match self {
             Refusal::Sizes => 1,
             Refusal::ShortWork(_) => 2,
             Refusal::BadName(_) => 3,
-            Refusal::BadRecord(_) => 4,
+            Refusal::BadKind(_) => 4,
+            Refusal::BadWord(_) => 8,
             Refusal::NoProject(_) => 5,
             Refusal::TooDeep(_) => 6,
             Refusal::MoreLines(_) => 7,
@@ -128,7 +131,8 @@ impl Refusal {
             Refusal::Sizes => 0,
             Refusal::ShortWork(at)
             | Refusal::BadName(at)
-            | Refusal::BadRecord(at)
+            | Refusal::BadKind(at)
+            | Refusal::BadWord(at)
             | Refusal::NoProject(at)
             | Refusal::TooDeep(at)
             | Refusal::MoreLines(at) => at,
@@ -194,9 +198,10 @@ fn answer(refusal: u64, first: u64, second: u64) -> Result<Counts, Refusal> {
         1 => Err(Refusal::Sizes),
         2 => Err(Refusal::ShortWork(first)),
         3 => Err(Refusal::BadName(first)),
-        4 => Err(Refusal::BadRecord(first)),
+        4 => Err(Refusal::BadKind(first)),
         5 => Err(Refusal::NoProject(first)),
         6 => Err(Refusal::TooDeep(first)),
+        8 => Err(Refusal::BadWord(first)),
         _ => Err(Refusal::MoreLines(first)),
     }
 }

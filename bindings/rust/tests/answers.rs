@@ -36,13 +36,14 @@ fn a_report() {
 }
 
 #[test]
-fn refusals_change_nothing_but_the_last() {
+fn refusals_but_more_lines_change_nothing() {
     let kept = |told: Refusal| (Err(told), false, 0);
     assert_eq!(ask(&KINDS, &WORDS[1..], TEXT, WORK, 3), kept(Refusal::Sizes));
     assert_eq!(ask(&[0; 4097], &[0; 4097], TEXT, WORK, 3), kept(Refusal::Sizes));
     assert_eq!(ask(&KINDS, &WORDS, TEXT, WORK - 1, 3), kept(Refusal::ShortWork(4095)));
     assert_eq!(ask(&KINDS, &WORDS, b"P\0a\0b\0b\0", WORK, 3), kept(Refusal::BadName(3)));
-    assert_eq!(ask(&[1, 255], &[0, 0], TEXT, WORK, 3), kept(Refusal::BadRecord(1)));
+    assert_eq!(ask(&[1, 255], &[0, 0], TEXT, WORK, 3), kept(Refusal::BadKind(1)));
+    assert_eq!(ask(&[1, 255], &[4097, 0], TEXT, WORK, 3), kept(Refusal::BadWord(0)));
     assert_eq!(ask(&KINDS[..9], &WORDS[..9], TEXT, WORK, 3), kept(Refusal::NoProject(9)));
     for room in 0..3 {
         assert_eq!(ask(&KINDS, &WORDS, TEXT, WORK, room), (Err(Refusal::MoreLines(3)), true, room));

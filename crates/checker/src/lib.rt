@@ -1,6 +1,6 @@
 // The call that reports on a whole project, in document 01's form: kinds, words and text are lent, work memory, and a slice of lines, each
 // a record of six fields. All computing is done by `staging` on plain slices, a batch of lines at a time; here each batch is stored as
-// structs by `stored`. The records are handed on by a `Reader`. Refusals 1 to 6 change nothing; after a report or refusal 7 the lines that
+// structs by `stored`. The records are handed on by a `Reader`. Every refusal but 7 changes nothing; after a report or 7 the lines that
 // fit are stored, and all work memory is zero. `check_all` is the same by value, for callers that lend no lines.
 use lustre::Answer;
 use lustre::Line;
@@ -26,7 +26,7 @@ pub fn check_reader<'a>(r: Reader<'a>, text: &[u8], work: &mut [u64], lines: &mu
     answer_of(b)
 }
 
-// `check_project`, lib.rs 134: the report on a whole project, or one of seven refusals.
+// `check_project`, lib.rs 134: the report on a whole project, or one of eight refusals.
 pub fn check_project(
     kinds: &[u8],
     words: &[u64],

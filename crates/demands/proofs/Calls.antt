@@ -2,7 +2,7 @@
 -- Assumes nothing.
 use Prim.Native.Nat.{ℕ, _≤_, _<_, min}
 use native.Mathlib.Omega.{arith}
-use mathlib.Core.Path.{_≡_, refl, ap}
+use mathlib.Core.Path.{_≡_, refl, sym, ap, _∙_}
 use mathlib.Core.Bool.{Bool, true, false}
 use mathlib.Core.List.{List, [], _∷_, map, map-map}
 use mathlib.Core.Option.{Option, none, some}
@@ -16,29 +16,16 @@ use Rattle.lustre.specs.Records.{bad-record}
 use Rattle.lustre.specs.Project.{Project}
 use Rattle.lustre.specs.Line.{Line}
 use Rattle.lustre.specs.Report.{report, followed}
-use Rattle.lustre.specs.Answer.{answer, lowest, refuse, reported, refusal-of, first-of, bad-sizes, short-work, no-project, too-deep-at, project-of, writes, over, lines-after, stored, stored-report, no-value, or-none, name-word, place-number}
+use Rattle.lustre.specs.Answer.{answer, lowest, reported, refusal-of, first-of, no-project, project-of, writes, over, lines-after, stored, stored-report, no-value, or-none, name-word, place-number}
 use Rattle.lustre.specs.declared.Line as Stored
-use Rattle.lustre.specs.declared.Answer.{Answer}
-use Rattle.lustre.specs.declared.Answer.the-variants.{Report, Sizes, ShortWork, BadName, BadRecord, NoProject, TooDeep, MoreLines}
+use Rattle.lustre.specs.declared.Answer.the-variants.{Report, MoreLines}
+use Rattle.lustre.proofs.Lowest.{reports, passes}
 use Rattle.demands.specs.Reading.{Each}
 use Rattle.demands.specs.Naming.{Named}
 use Rattle.demands.specs.Demand3.{Call, Reported, records, Mention, no-name, the-name, mention, Said, said, lines-of}
 use Rattle.demands.proofs.Known.{Known-name}
 
--- where the answer is a report, no refusal applies
-unrefused : (a b c d e f : Option ℕ) (rest : Answer) (n m : ℕ)
-    → refuse a (λ at. Sizes) (refuse b ShortWork (refuse c BadName (refuse d BadRecord (refuse e NoProject (refuse f TooDeep rest))))) ≡ Report n m
-    → (c ≡ none) × (d ≡ none) × (e ≡ none) × (rest ≡ Report n m)
-unfolding refuse
-unrefused none none none none none none rest n m q = (refl, refl, refl, q)
-unrefused (some at) b c d e f rest n m q = absurd (omega (arith, ap refusal-of q))
-unrefused none (some at) c d e f rest n m q = absurd (omega (arith, ap refusal-of q))
-unrefused none none (some at) d e f rest n m q = absurd (omega (arith, ap refusal-of q))
-unrefused none none none (some at) e f rest n m q = absurd (omega (arith, ap refusal-of q))
-unrefused none none none none (some at) f rest n m q = absurd (omega (arith, ap refusal-of q))
-unrefused none none none none none (some at) rest n m q = absurd (omega (arith, ap refusal-of q))
-
--- and the report's lines fit the room
+-- a report's lines fit the room
 fitted : (room : ℕ) (P : Project) (n e : ℕ) → reported room P ≡ Report n e → (length (report P) ≤ room) × (length (report P) ≡ n)
 unfolding reported
 fitted room P n e = go (leb (length (report P)) room) refl
@@ -61,13 +48,12 @@ pub record Passed (c : Call) (count : ℕ) : Type 0 where
   pub counted : length (report (project c)) ≡ count
 
 pub passed : (c : Call) (r : Reported c) → Passed c (r .count)
-unfolding answer lowest
+unfolding answer
 passed c r =
-    let h = unrefused (bad-sizes (c .kinds) (c .words) (c .text)) (short-work (length (c .work))) (bad-name (c .text))
-    (bad-record (length (names-of (c .text))) 0 (c .kinds) (c .words)) (no-project (records c)) (too-deep-at (records c))
-    (reported (length (c .lines)) (project c)) (r .count) (r .edges) (r .is) in
-    let f = fitted (length (c .lines)) (project c) (r .count) (r .edges) (h .3) in
-    record { named = h .0; ranged = h .1; tree = h .2; fits = f .0; counted = f .1 }
+    let o = reports (lowest (c .kinds) (c .words) (c .text) (length (c .work))) (reported (length (c .lines)) (project c)) (ap refusal-of (r .is)) in
+    let h = passes (c .kinds) (c .words) (c .text) (length (c .work)) (o .0) in
+    let f = fitted (length (c .lines)) (project c) (r .count) (r .edges) (sym (o .1) ∙ r .is) in
+    record { named = h .named; ranged = h .ranged; tree = h .project; fits = f .0; counted = f .1 }
 
 -- lines that fit are found at the front
 at-front : (lines lent : List Stored.Line) (n : ℕ) → length lines ≡ n → length lines ≤ length lent → take n (over lines lent) ≡ lines

@@ -192,7 +192,7 @@ module _ (names : List Name) where
   spelled-word (some any-word) kind w e h = rw e tt
   spelled-word (some a-byte) kind w e h = rw e tt
 
-  -- the records that refusal 4 passes are spelled by the names
+  -- records without a bad one are spelled by the names
   pub spelled-known : (ks ws : List ℕ) (at : ℕ) → bad-record (length names) at ks ws ≡ none → Known-records Among (spell (name-at names) ks ws)
   unfolding bad-record spell
   spelled-known [] ws at e = tt

@@ -16,7 +16,8 @@ use Rattle.lustre.specs.Line.{Severity, Error, Warning, severity}
 use Rattle.lustre.specs.Answer.{refusal-of, first-of, second-of, no-value, answer, stored-report}
 use Rattle.lustre.specs.declared.Line.{Line}
 use Rattle.lustre.specs.declared.Answer.{Answer}
-use Rattle.lustre.specs.declared.Answer.the-variants.{Sizes}
+use Rattle.lustre.specs.declared.Answer.the-variants.{Refused}
+use Rattle.lustre.specs.declared.Refusal.the-variants.{Sizes}
 use Rattle.format.specs.File.{Model, parse}
 
 -- a quoted text as its bytes
@@ -96,7 +97,7 @@ printed a ls text = joined (output-lines a ls text)
 
 -- the output for what a file holds, with 4,096 work words and 1,024 lines lent; refusal 1 where it holds nothing
 unfoldable pub output-of : Option Model → List ℕ
-output-of none = header Sizes
+output-of none = header (Refused Sizes)
 output-of (some m) = printed (answer (m .kinds) (m .words) (m .text) 4096 1024) (stored-report (m .kinds) (m .words) (m .text)) (m .text)
 
 -- what `check` prints for the bytes of a file

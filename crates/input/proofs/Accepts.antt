@@ -13,28 +13,37 @@ use Rattle.lustre.specs.Name.{if_then_else_}
 use Rattle.lustre.specs.Names.{names-of, name-at}
 use Rattle.lustre.specs.Records.{spell}
 use Rattle.lustre.specs.Grammar.{one, a-project, flat-part}
-use Rattle.lustre.specs.Answer.{lowest, refuse, bad-sizes, too-deep-at, spelled, project-of}
+use Rattle.lustre.specs.Answer.{lowest, unless-refused, bad-sizes, too-deep-at, spelled, project-of}
 use Rattle.demands.proofs.Naming.{accepted-names}
 use Rattle.demands.proofs.Reading.{spelled-tidy, whole-project}
 use Rattle.records.proofs.Spells.{spell-kinds, spell-past}
 use Rattle.input.specs.Input.{judged}
 use Rattle.input.specs.Accepted.{Accepts}
-use Rattle.input.specs.declared.Input.the-variants.{Accepted, Sizes, ShortWork, BadName, BadRecord, NoProject, TooDeep}
+use Rattle.input.specs.declared.Input.the-variants.{Accepted, Refused}
+use Rattle.lustre.specs.declared.Refusal.{Refusal}
+use Rattle.lustre.proofs.Lowest.{passes}
 use Rattle.input.proofs.Shallow.{project-shallow}
 use Rattle.input.proofs.Numbers.{short-names, numbered, ranged, same-spelling}
 
--- where the answer accepts, no refusal applies
-unrefused : (a b c d e f : Option ℕ) (m n : ℕ)
-    → refuse a (λ at. Sizes) (refuse b ShortWork (refuse c BadName (refuse d BadRecord (refuse e NoProject (refuse f TooDeep (Accepted m)))))) ≡ Accepted n
-    → (a ≡ none) × (c ≡ none) × (d ≡ none) × (e ≡ none) × (f ≡ none)
-unfolding refuse
-unrefused none none none none none none m n q = (refl, refl, refl, refl, refl)
-unrefused (some at) b c d e f m n q = (cc, cc, cc, cc, cc)
-unrefused none (some at) c d e f m n q = (cc, cc, cc, cc, cc)
-unrefused none none (some at) d e f m n q = (cc, cc, cc, cc, cc)
-unrefused none none none (some at) e f m n q = (cc, cc, cc, cc, cc)
-unrefused none none none none (some at) f m n q = (cc, cc, cc, cc, cc)
-unrefused none none none none none (some at) m n q = (cc, cc, cc, cc, cc)
+-- what a call on accepted and on refused input goes by
+module _ (kinds words text : List ℕ) (work : ℕ) where
+  -- accepted input: nothing is refused, and there are so many names
+  pub accepted : (n : ℕ) → judged kinds words text work ≡ Accepted n → (lowest kinds words text work ≡ none) × (length (names-of text) ≡ n)
+  unfolding judged unless-refused
+  accepted n = go (lowest kinds words text work)
+    where
+      go : (o : Option Refusal) → unless-refused o Refused (Accepted (length (names-of text))) ≡ Accepted n → (o ≡ none) × (length (names-of text) ≡ n)
+      go none q = (refl, cc)
+      go (some r) q = (cc, cc)
+
+  -- refused input: its refusal is given first
+  pub refused : (r : Refusal) → judged kinds words text work ≡ Refused r → lowest kinds words text work ≡ some r
+  unfolding judged unless-refused
+  refused r = go (lowest kinds words text work)
+    where
+      go : (o : Option Refusal) → unless-refused o Refused (Accepted (length (names-of text))) ≡ Refused r → o ≡ some r
+      go none q = cc
+      go (some s) q = let z : s ≡ r = cc in ap some z
 
 -- a test that refuses where it is false is true where it does not refuse
 held : (t : Bool) → _≡_ {A = Option ℕ} (if t then none else some 0) none → t ≡ true
@@ -51,26 +60,26 @@ sized ks ws text q =
 
 -- so accepted input has each of the facts
 pub accepts : Accepts
-unfolding judged lowest spelled project-of
+unfolding spelled project-of
 accepts ks ws text work n q =
-    let h = unrefused _ _ _ _ _ _ (length (names-of text)) n q in
-    let size = sized ks ws text (h .0) in
-    let names = accepted-names text (h .1) in
-    let numbering = numbered (names-of text) names (short-names text (h .1)) in
+    let h = passes ks ws text work (accepted ks ws text work n q .0) in
+    let size = sized ks ws text (h .sizes) in
+    let names = accepted-names text (h .named) in
+    let numbering = numbered (names-of text) names (short-names text (h .named)) in
     let P = project-of ks ws text in
-    let tree = whole-project (spelled ks ws text) (spelled-tidy (name-at (names-of text)) ks ws) (h .3) in
-    let same : spell (numbering .text) ks ws ≡ flat-part (one a-project) P [] = same-spelling (numbering .text) (name-at (names-of text)) (length (names-of text)) (numbering .is) 0 ks ws (h .2) ∙ tree .1 in
+    let tree = whole-project (spelled ks ws text) (spelled-tidy (name-at (names-of text)) ks ws) (h .project) in
+    let same : spell (numbering .text) ks ws ≡ flat-part (one a-project) P [] = same-spelling (numbering .text) (name-at (names-of text)) (length (names-of text)) (numbering .is) 0 ks ws (h .ranged) ∙ tree .1 in
     record {
       same = size .0;
       few = size .1;
       names = names;
       numbering = numbering;
-      ranged = ranged (length (names-of text)) 0 ks ws (size .0) (h .2);
+      ranged = ranged (length (names-of text)) 0 ks ws (size .0) (h .ranged);
       stands = record {
         flat = same ∙ ap (flat-part (one a-project) P) (sym (spell-past (numbering .text) ks ws (length ks) (omega arith)));
         before = omega (arith, spell-kinds (numbering .text) ks ws, ap length same);
         within = omega arith;
         writable = tree .0;
       };
-      shallow = project-shallow P (tree .0) (ap too-deep-at (sym (tree .1)) ∙ h .4);
+      shallow = project-shallow P (tree .0) (ap too-deep-at (sym (tree .1)) ∙ h .shallow);
     }

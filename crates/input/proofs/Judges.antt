@@ -4,11 +4,13 @@ use Prim.Native.Nat.{ℕ, _≤_, _<_}
 use mathlib.Core.Path.{_≡_, refl, ap, sym, _∙_}
 use mathlib.Core.List.{List}
 use mathlib.Core.Option.{Option, none, some}
-use lib.ListN.{length}
+use mathlib.Core.Bool.{Bool, true, false}
+use lib.ListN.{length, getD, List·getD-eq-default}
 use borrow.Author.Tests.{eq-eqb, ne-eqb, le-leb, lt-leb, lt-ltb, le-ltb}
 use Rattle.lustre.specs.Names.{bad-name, names-of, name-at}
-use Rattle.lustre.specs.Records.{bad-record, spell}
-use Rattle.lustre.specs.Answer.{lowest, refuse, bad-sizes, short-work, spelled, no-project, too-deep-at}
+use Rattle.lustre.specs.Name.{mem}
+use Rattle.lustre.specs.Records.{word-classes, class-in, word-class, is-known, bad-record, spell}
+use Rattle.lustre.specs.Answer.{lowest, refuse, record-refusal, unless-refused, bad-sizes, short-work, spelled, no-project, too-deep-at}
 use Rattle.names.specs.Scan as Scan
 use Rattle.names.specs.declared.Names.{Names}
 use Rattle.names.specs.declared.Names.the-variants.{Good, Bad}
@@ -17,34 +19,59 @@ use Rattle.records.specs.declared.Place.{Place}
 use Rattle.records.specs.declared.Place.the-variants.{At, Nowhere}
 use Rattle.records.specs.declared.Structure.{Structure}
 use Rattle.records.specs.declared.Structure.the-variants as Structures
-use Rattle.input.specs.Input.{judged, judged-records, Judged-records}
+use Rattle.input.specs.Input.{judged, Judged-records}
 use Rattle.input.specs.declared.Input.{Input}
-use Rattle.input.specs.declared.Input.the-variants.{Accepted, Sizes, ShortWork, BadName, BadRecord, NoProject, TooDeep}
+use Rattle.input.specs.declared.Input.the-variants.{Accepted, Refused}
+use Rattle.lustre.specs.declared.Refusal.{Refusal}
+use Rattle.lustre.specs.declared.Refusal.the-variants.{Sizes, ShortWork, BadName, BadKind, BadWord, NoProject, TooDeep}
 
--- what the structure of records that refusal 4 passes answers, where there are so many names
+-- the first bad record is refused by its kind, known or not; past the kinds there is none that is known
+module _ (kinds : List ℕ) (at : ℕ) where
+  pub word-refusal : (b : Bool) → b ≡ is-known (word-class (getD kinds at 0)) → b ≡ true → BadWord at ≡ record-refusal kinds at
+  unfolding record-refusal
+  word-refusal b e t = rw (← e, t)
+
+  pub kind-refusal : (b : Bool) → b ≡ is-known (word-class (getD kinds at 0)) → b ≡ false → BadKind at ≡ record-refusal kinds at
+  unfolding record-refusal
+  kind-refusal b e t = rw (← e, t)
+
+  pub past-refusal : length kinds ≤ at → BadKind at ≡ record-refusal kinds at
+  unfolding record-refusal is-known word-class class-in word-classes mem
+  past-refusal h = rw (List·getD-eq-default kinds 0 h)
+
+-- where no refusal before 4 applies, the records decide
+records-decide : (kinds words text : List ℕ) (work : ℕ) → bad-sizes kinds words text ≡ none → short-work work ≡ none → bad-name text ≡ none
+    → lowest kinds words text work
+    ≡ refuse (bad-record (length (names-of text)) 0 kinds words) (record-refusal kinds) (refuse (no-project (spelled kinds words text)) NoProject (refuse (too-deep-at (spelled kinds words text)) TooDeep none))
+unfolding lowest refuse
+records-decide kinds words text work sizes enough named = rw (sizes, refuse, enough, refuse, named)
+
+-- what the structure of records without a bad one answers, where there are so many names
 abbrev pub structure-answer : ℕ → Structure → Input
 structure-answer names Structures.Project = Accepted names
-structure-answer names (Structures.NoProject at) = NoProject at
-structure-answer names (Structures.TooDeep at) = TooDeep at
+structure-answer names (Structures.NoProject at) = Refused (NoProject at)
+structure-answer names (Structures.TooDeep at) = Refused (TooDeep at)
 
 -- p is the place of the first bad record
 module _ (kinds words : List ℕ) (names : ℕ) (p : Place) (e : p ≡ placed (bad-record names 0 kinds words)) where
-  -- if there is one, refusal 4 applies
-  pub record-refused : (at : ℕ) → p ≡ At at → Judged-records kinds words names (BadRecord at)
-  unfolding judged-records refuse
-  record-refused at f ρ = go (bad-record names 0 kinds words) _ e
+  -- if there is one, refusal 4 or 8 applies
+  pub record-refused : (at : ℕ) → p ≡ At at → (r : Refusal) → r ≡ record-refusal kinds at → Judged-records kinds words names (Refused r)
+  unfolding judged refuse unless-refused
+  record-refused at f r q text work sizes enough named n = rw (records-decide kinds words text work sizes enough named, n, q) (go (bad-record names 0 kinds words) _ e)
     where
-      go : (o : Option ℕ) (rest : Input) → p ≡ placed o → BadRecord at ≡ refuse o BadRecord rest
-      go none rest e = cc
-      go (some k) rest e = cc
+      go : (o : Option ℕ) (next : Option Refusal) → p ≡ placed o → Refused (record-refusal kinds at) ≡ unless-refused (refuse o (record-refusal kinds) next) Refused (Accepted names)
+      go none next e = cc
+      go (some k) next e = let z : at ≡ k = cc in ap (λ (i : ℕ). Refused (record-refusal kinds i)) z
 
   -- if there is none, the structure of the records decides
   pub structure-judged : p ≡ Nowhere → (r s : Structure) → Structured kinds words r → r ≡ s → Judged-records kinds words names (structure-answer names s)
-  unfolding judged-records refuse
-  structure-judged f r s h q ρ =
-      ap (structure-answer names) (sym q ∙ h ρ) ∙ go (bad-record names 0 kinds words) (no-project (spell ρ kinds words)) (too-deep-at (spell ρ kinds words)) e
+  unfolding judged spelled refuse unless-refused
+  structure-judged f r s h q text work sizes enough named n =
+      let ρ = name-at (names-of text) in
+      rw (records-decide kinds words text work sizes enough named, n)
+      (ap (structure-answer names) (sym q ∙ h ρ) ∙ go (bad-record names 0 kinds words) (no-project (spell ρ kinds words)) (too-deep-at (spell ρ kinds words)) e)
     where
-      go : (a b c : Option ℕ) → p ≡ placed a → structure-answer names (structured b c) ≡ refuse a BadRecord (refuse b NoProject (refuse c TooDeep (Accepted names)))
+      go : (a b c : Option ℕ) → p ≡ placed a → structure-answer names (structured b c) ≡ unless-refused (refuse a (record-refusal kinds) (refuse b NoProject (refuse c TooDeep none))) Refused (Accepted names)
       go none none none e = refl
       go none none (some at) e = refl
       go none (some at) c e = refl
@@ -53,18 +80,18 @@ module _ (kinds words : List ℕ) (names : ℕ) (p : Place) (e : p ≡ placed (b
 -- the input of a call
 module _ (kinds words text : List ℕ) (work : ℕ) where
   -- refusal 1 applies where kinds and words differ in number
-  pub lengths-differ : (length kinds ≡ length words → ⊥) → Sizes ≡ judged kinds words text work
-  unfolding judged lowest refuse bad-sizes
+  pub lengths-differ : (length kinds ≡ length words → ⊥) → Refused Sizes ≡ judged kinds words text work
+  unfolding judged lowest unless-refused refuse bad-sizes
   lengths-differ d = rw (ne-eqb (length kinds) (length words) d)
 
   -- it applies where there are too many records
-  pub many-records : length kinds ≡ length words → 4096 < length kinds → Sizes ≡ judged kinds words text work
-  unfolding judged lowest refuse bad-sizes
+  pub many-records : length kinds ≡ length words → 4096 < length kinds → Refused Sizes ≡ judged kinds words text work
+  unfolding judged lowest unless-refused refuse bad-sizes
   many-records e m = rw (eq-eqb (length kinds) (length words) e, lt-leb (length kinds) 4096 m)
 
   -- it applies where the text is too long
-  pub long-text : length kinds ≡ length words → length kinds ≤ 4096 → 16384 < length text → Sizes ≡ judged kinds words text work
-  unfolding judged lowest refuse bad-sizes
+  pub long-text : length kinds ≡ length words → length kinds ≤ 4096 → 16384 < length text → Refused Sizes ≡ judged kinds words text work
+  unfolding judged lowest unless-refused refuse bad-sizes
   long-text e f m = rw (eq-eqb (length kinds) (length words) e, le-leb (length kinds) 4096 f, lt-leb (length text) 16384 m)
 
   -- sizes that are in order
@@ -75,26 +102,26 @@ module _ (kinds words text : List ℕ) (work : ℕ) where
     sizes-fit = rw (eq-eqb (length kinds) (length words) e, le-leb (length kinds) 4096 f, le-leb (length text) 16384 g)
 
     -- refusal 2 applies to little work memory
-    pub work-short : work < 4096 → ShortWork work ≡ judged kinds words text work
-    unfolding judged lowest refuse short-work
+    pub work-short : work < 4096 → Refused (ShortWork work) ≡ judged kinds words text work
+    unfolding judged lowest unless-refused refuse short-work
     work-short s = rw (sizes-fit, refuse, lt-ltb work 4096 s)
 
     -- enough work memory, and what the check of the text answers
     module _ (w : 4096 ≤ work) (a : Names) (c : a ≡ Scan.checked text) where
       -- refusal 3 applies where it answers a bad name
-      pub name-refused : (n : ℕ) → a ≡ Bad n → BadName n ≡ judged kinds words text work
-      unfolding judged lowest refuse short-work Scan.checked
+      pub name-refused : (n : ℕ) → a ≡ Bad n → Refused (BadName n) ≡ judged kinds words text work
+      unfolding judged lowest unless-refused refuse short-work Scan.checked
       name-refused n q = rw (sizes-fit, refuse, le-ltb work 4096 w) (go (bad-name text) _ c)
         where
-          go : (o : Option ℕ) (rest : Input) → a ≡ Scan.judged o (length (names-of text)) → BadName n ≡ refuse o BadName rest
-          go none rest c = cc
-          go (some k) rest c = cc
+          go : (o : Option ℕ) (next : Option Refusal) → a ≡ Scan.judged o (length (names-of text)) → Refused (BadName n) ≡ unless-refused (refuse o BadName next) Refused (Accepted (length (names-of text)))
+          go none next c = cc
+          go (some k) next c = cc
 
       -- the answer to the records is the answer where it answers the number of names
       pub records-judged : (n : ℕ) → a ≡ Good n → (r : Input) → Judged-records kinds words n r → r ≡ judged kinds words text work
-      unfolding judged lowest refuse short-work spelled judged-records Scan.checked
-      records-judged n q r h = rw (sizes-fit, refuse, le-ltb work 4096 w) (go (bad-name text) c)
+      unfolding short-work Scan.checked
+      records-judged n q r h = go (bad-name text) refl c
         where
-          go : (o : Option ℕ) → a ≡ Scan.judged o (length (names-of text)) → r ≡ refuse o BadName (judged-records (name-at (names-of text)) kinds words (length (names-of text)))
-          go none c = let z : n ≡ length (names-of text) = cc in rw (← z) (h (name-at (names-of text)))
-          go (some k) c = cc
+          go : (o : Option ℕ) → bad-name text ≡ o → a ≡ Scan.judged o (length (names-of text)) → r ≡ judged kinds words text work
+          go none named c = let z : length (names-of text) ≡ n = cc in h text work sizes-fit (rw (le-ltb work 4096 w)) named z
+          go (some k) named c = cc

@@ -1,5 +1,5 @@
--- The numbering of accepted names, with texts longer than any name past the last one, and what refusal 4 leaves: words in range, which
--- the numbering spells as the names do. Assumes nothing.
+-- The numbering of accepted names, with texts longer than any name past the last one, and what refusals 4 and 8 leave: words in range,
+-- which the numbering spells as the names do. Assumes nothing.
 use Prim.Native.Nat.{ℕ, zero, suc, _+_, _-_, _≤_, _<_}
 use native.Mathlib.Omega.{arith}
 use mathlib.Core.Path.{_≡_, refl, ap₂}
@@ -81,7 +81,7 @@ module _ (names : List Name) where
       increasing = λ i j l k. rw (text-is i (omega arith), text-is j k) (h .increasing i j l k);
     }
 
--- the word of each record that refusal 4 passes is in its kind's range
+-- where no record is bad, the word of each is in its kind's range
 pub ranged : (names at : ℕ) (ks ws : List ℕ) → length ks ≡ length ws → bad-record names at ks ws ≡ none → (i : ℕ) → i < length ks → in-class names (word-class (getD ks i 0)) (getD ws i 0) ≡ true
 unfolding bad-record
 ranged names at [] ws s e i l = absurd (omega arith)
@@ -103,7 +103,7 @@ module _ (ρ σ : ℕ → Name) (names : ℕ) (same : (n : ℕ) → n < names �
   same-word (some any-word) k w e = refl
   same-word (some a-byte) k w e = refl
 
-  -- they spell the records that refusal 4 passes alike
+  -- they spell records without a bad one alike
   pub same-spelling : (at : ℕ) (ks ws : List ℕ) → bad-record names at ks ws ≡ none → spell ρ ks ws ≡ spell σ ks ws
   unfolding bad-record spell
   same-spelling at [] ws e = refl

@@ -1,25 +1,21 @@
--- What the check of the input answers: the lowest of refusals 1 to 6 that applies, as lustre's `lowest` says, or the number of names.
+-- What the check of the input answers: the refusal that lustre's `lowest` gives first, or the number of names.
 -- Assumes nothing: these are definitions.
 use Prim.Native.Nat.{ℕ}
 use mathlib.Core.Path.{_≡_}
 use mathlib.Core.List.{List}
+use mathlib.Core.Option.{none}
 use lib.ListN.{length}
-use Rattle.lustre.specs.Name.{Name}
-use Rattle.lustre.specs.Names.{names-of}
-use Rattle.lustre.specs.Records.{bad-record, spell}
-use Rattle.lustre.specs.Answer.{lowest, refuse, no-project, too-deep-at}
+use Rattle.lustre.specs.Names.{bad-name, names-of}
+use Rattle.lustre.specs.Answer.{bad-sizes, short-work, lowest, unless-refused}
 use Rattle.input.specs.declared.Input.{Input}
-use Rattle.input.specs.declared.Input.the-variants.{Accepted, Sizes, ShortWork, BadName, BadRecord, NoProject, TooDeep}
+use Rattle.input.specs.declared.Input.the-variants.{Accepted, Refused}
 
 -- the answer to kinds, words, a text and so many words of work memory
 unfoldable pub judged : (kinds words text : List ℕ) (work : ℕ) → Input
-judged kinds words text work = lowest kinds words text work (λ at. Sizes) ShortWork BadName BadRecord NoProject TooDeep (Accepted (length (names-of text)))
+judged kinds words text work = unless-refused (lowest kinds words text work) Refused (Accepted (length (names-of text)))
 
--- the part of it that refusals 4 to 6 decide, where there are so many names, with the texts of a numbering
-unfoldable pub judged-records : (ℕ → Name) → (kinds words : List ℕ) (names : ℕ) → Input
-judged-records ρ kinds words names =
-    refuse (bad-record names 0 kinds words) BadRecord (refuse (no-project (spell ρ kinds words)) NoProject (refuse (too-deep-at (spell ρ kinds words)) TooDeep (Accepted names)))
-
--- r is that part, whatever the texts are
+-- r is the answer to kinds and words where a text has so many names, whatever these are, and no refusal before 4 applies
 abbrev pub Judged-records : (kinds words : List ℕ) (names : ℕ) → Input → Type 0
-Judged-records kinds words names r = (ρ : ℕ → Name) → r ≡ judged-records ρ kinds words names
+Judged-records kinds words names r = (text : List ℕ) (work : ℕ)
+    → bad-sizes kinds words text ≡ none → short-work work ≡ none → bad-name text ≡ none → length (names-of text) ≡ names
+    → r ≡ judged kinds words text work

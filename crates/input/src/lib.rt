@@ -1,51 +1,61 @@
-// Refusals 1 to 6 together: document 01, 'What is lent'. The lowest number that applies, with its place, or the number of names. Nothing
-// lent is changed: every slice is read only. What acceptance gives stands in specs/Accepted.antt.
+// The refusals of what is lent together: document 01, 'What is lent', and request 2.2. The first that applies, in the order 1, 2, 3, 4 or 8,
+// 5, 6, with its place, or the number of names. Nothing lent is changed: every slice is read only. What acceptance gives stands in
+// specs/Accepted.antt.
+use lustre::Refusal;
 ghost use mathlib.Core.Path.{_≡_};
+ghost use Rattle.lustre.specs.Answer.{record-refusal};
 ghost use Rattle.input.specs.Input.{judged, Judged-records};
 
-// What the check of the input answers.
+// What the check of the input answers: the number of names, or a refusal.
 pub enum Input {
     Accepted(u64),
-    Sizes,
-    ShortWork(u64),
-    BadName(u64),
-    BadRecord(u64),
-    NoProject(u64),
-    TooDeep(u64),
+    Refused(Refusal),
 }
 
-// The lowest of refusals 1 to 6 that applies, or the number of names. `work` is the length of the work memory.
+// The first refusal that applies, or the number of names. `work` is the length of the work memory.
 pub fn check_input(kinds: &[u8], words: &[u64], text: &[u8], work: usize) -> Input
     ensures { λ r. ⌜ r ≡ judged (now (kinds .entry)) (now (words .entry)) (now (text .entry)) work ⌝ }
 {
     if kinds.len() != words.len() {
-        return Input::Sizes;
+        return Input::Refused(Refusal::Sizes);
     }
     if kinds.len() > 4096 {
-        return Input::Sizes;
+        return Input::Refused(Refusal::Sizes);
     }
     if text.len() > 16384 {
-        return Input::Sizes;
+        return Input::Refused(Refusal::Sizes);
     }
     if work < 4096 {
-        return Input::ShortWork(work as u64);
+        return Input::Refused(Refusal::ShortWork(work as u64));
     }
     match names::check_names(text) {
-        names::Names::Bad(n) => Input::BadName(n),
+        names::Names::Bad(n) => Input::Refused(Refusal::BadName(n)),
         names::Names::Good(count) => check_records(kinds, words, count),
     }
 }
 
-// Refusals 4, 5 and 6, where there are so many names.
+// The refusal of the first bad record: 4 if its kind is unknown, else 8.
+fn record_refusal(kinds: &[u8], at: usize) -> Refusal
+    ensures { λ r. ⌜ r ≡ record-refusal (now (kinds .entry)) at ⌝ }
+{
+    if at < kinds.len() {
+        if records::is_known(kinds[at]) {
+            return Refusal::BadWord(at as u64);
+        }
+    }
+    Refusal::BadKind(at as u64)
+}
+
+// Refusals 4 or 8, 5 and 6, where there are so many names.
 fn check_records(kinds: &[u8], words: &[u64], names: u64) -> Input
     ensures { λ r. ⌜ Judged-records (now (kinds .entry)) (now (words .entry)) names r ⌝ }
 {
     match records::first_bad(kinds, words, names) {
-        records::Place::At(at) => Input::BadRecord(at as u64),
+        records::Place::At(at) => Input::Refused(record_refusal(kinds, at)),
         records::Place::Nowhere => match records::check_structure(kinds, words) {
             records::Structure::Project => Input::Accepted(names),
-            records::Structure::NoProject(at) => Input::NoProject(at as u64),
-            records::Structure::TooDeep(at) => Input::TooDeep(at as u64),
+            records::Structure::NoProject(at) => Input::Refused(Refusal::NoProject(at as u64)),
+            records::Structure::TooDeep(at) => Input::Refused(Refusal::TooDeep(at as u64)),
         },
     }
 }

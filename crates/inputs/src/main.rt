@@ -5,6 +5,7 @@ use cases::label;
 use cases::little;
 use cases::read_part;
 use input::Input;
+use lustre::refusal_numbers;
 
 // Room for the kinds and words of a case, for its words' bytes and for its text: a little more than document 01 lets pass.
 const RECORDS: usize = 4200;
@@ -25,36 +26,18 @@ fn decode(bytes: &[u8], words: &mut [u64]) {
     }
 }
 
-fn print_refused(refusal: u64, place: u64) {
-    io::write_all(1, b"refused ");
-    io::print_decimal(1, refusal);
-    io::write_all(1, b" at ");
-    io::print_decimal(1, place);
-}
-
 fn print_answer(a: Input) {
     match a {
         Input::Accepted(names) => {
             io::write_all(1, b"accepted ");
             io::print_decimal(1, names);
         }
-        Input::Sizes => {
-            print_refused(1, 0);
-        }
-        Input::ShortWork(at) => {
-            print_refused(2, at);
-        }
-        Input::BadName(at) => {
-            print_refused(3, at);
-        }
-        Input::BadRecord(at) => {
-            print_refused(4, at);
-        }
-        Input::NoProject(at) => {
-            print_refused(5, at);
-        }
-        Input::TooDeep(at) => {
-            print_refused(6, at);
+        Input::Refused(r) => {
+            let n = refusal_numbers(r);
+            io::write_all(1, b"refused ");
+            io::print_decimal(1, n.refusal);
+            io::write_all(1, b" at ");
+            io::print_decimal(1, n.first);
         }
     }
     io::write_all(1, b"\n");

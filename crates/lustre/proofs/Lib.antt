@@ -6,3 +6,4 @@ pub mod Steps
 pub mod Pinned
 pub mod Reading
 pub mod Refusals
+pub mod Lowest

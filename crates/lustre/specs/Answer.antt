@@ -5,10 +5,10 @@ use mathlib.Core.Bool.{Bool, true, false, _&&_}
 use mathlib.Core.List.{List, [], _∷_, _++_, map}
 use mathlib.Core.Option.{Option, none, some}
 use lib.Dec.{eqb, ltb, leb}
-use lib.ListN.{length, take, drop, replicate}
+use lib.ListN.{length, getD, take, drop, replicate}
 use Rattle.lustre.specs.Name.{Name, if_then_else_}
 use Rattle.lustre.specs.Names.{bad-name, names-of, name-at, number-of}
-use Rattle.lustre.specs.Records.{Rec, bad-record, spell}
+use Rattle.lustre.specs.Records.{Rec, word-class, is-known, bad-record, spell}
 use Rattle.lustre.specs.Grammar.{Got, got, stuck, one, a-project, read-project, whole}
 use Rattle.lustre.specs.Levels.{deep-record}
 use Rattle.lustre.specs.Project.{Project}
@@ -17,39 +17,36 @@ use Rattle.lustre.specs.Line as Line
 use Rattle.lustre.specs.Report.{report, followed}
 use Rattle.lustre.specs.declared.Line as Stored
 use Rattle.lustre.specs.declared.Answer.{Answer}
-use Rattle.lustre.specs.declared.Answer.the-variants.{Report, Sizes, ShortWork, BadName, BadRecord, NoProject, TooDeep, MoreLines}
+use Rattle.lustre.specs.declared.Answer.the-variants.{Report, Refused, MoreLines}
+use Rattle.lustre.specs.declared.Refusal.{Refusal}
+use Rattle.lustre.specs.declared.Refusal.the-variants.{Sizes, ShortWork, BadName, BadKind, BadWord, NoProject, TooDeep}
 
--- document 01's number of an answer: 0 for a report, 1 to 7 for the refusals
+-- the number and the place of a refusal of what is lent: document 01's 1 to 6, and request 2.2's 8
+abbrev pub number-and-place : Refusal → ℕ × ℕ
+number-and-place Sizes = (1, 0)
+number-and-place (ShortWork work) = (2, work)
+number-and-place (BadName at) = (3, at)
+number-and-place (BadKind at) = (4, at)
+number-and-place (BadWord at) = (8, at)
+number-and-place (NoProject at) = (5, at)
+number-and-place (TooDeep at) = (6, at)
+
+-- the number of an answer: 0 for a report, 1 to 8 for a refusal
 abbrev pub refusal-of : Answer → ℕ
 refusal-of (Report lines edges) = 0
-refusal-of Sizes = 1
-refusal-of (ShortWork at) = 2
-refusal-of (BadName at) = 3
-refusal-of (BadRecord at) = 4
-refusal-of (NoProject at) = 5
-refusal-of (TooDeep at) = 6
+refusal-of (Refused r) = number-and-place r .0
 refusal-of (MoreLines needed) = 7
 
 -- a report's number of lines, or a refusal's place
 abbrev pub first-of : Answer → ℕ
 first-of (Report lines edges) = lines
-first-of Sizes = 0
-first-of (ShortWork at) = at
-first-of (BadName at) = at
-first-of (BadRecord at) = at
-first-of (NoProject at) = at
-first-of (TooDeep at) = at
+first-of (Refused r) = number-and-place r .1
 first-of (MoreLines needed) = needed
 
 -- a report's number of edges followed; 0 for a refusal
 abbrev pub second-of : Answer → ℕ
 second-of (Report lines edges) = edges
-second-of Sizes = 0
-second-of (ShortWork at) = 0
-second-of (BadName at) = 0
-second-of (BadRecord at) = 0
-second-of (NoProject at) = 0
-second-of (TooDeep at) = 0
+second-of (Refused r) = 0
 second-of (MoreLines needed) = 0
 
 -- Refusal 1: kinds and words differ in length, or there are too many records or text bytes.
@@ -87,33 +84,44 @@ project-read rs = project-in (whole (read-project rs))
 unfoldable pub project-of : List ℕ → List ℕ → List ℕ → Project
 project-of kinds words text = project-read (spelled kinds words text)
 
-unfoldable pub refuse : {A : Type 0} → Option ℕ → (ℕ → A) → A → A
-refuse none refusal rest = rest
-refuse (some at) refusal rest = refusal at
+-- Refusal 4 or 8, of the first bad record: 4 if its kind is unknown, whatever its word, else 8.
+unfoldable pub record-refusal : List ℕ → ℕ → Refusal
+record-refusal kinds at = if is-known (word-class (getD kinds at 0)) then BadWord at else BadKind at
 
--- the lowest of refusals 1 to 6 that applies, each with its place, or else the rest
-unfoldable pub lowest : {A : Type 0} (kinds words text : List ℕ) (work : ℕ) (one′ two three four five six : ℕ → A) → A → A
-lowest kinds words text work one′ two three four five six rest =
-    refuse (bad-sizes kinds words text) one′
-    (refuse (short-work work) two
-    (refuse (bad-name text) three
-    (refuse (bad-record (length (names-of text)) 0 kinds words) four
-    (refuse (no-project (spelled kinds words text)) five
-    (refuse (too-deep-at (spelled kinds words text)) six
-    rest)))))
+-- a refusal at the place where it applies; where it applies nowhere, the next one
+unfoldable pub refuse : Option ℕ → (ℕ → Refusal) → Option Refusal → Option Refusal
+refuse none refusal next = next
+refuse (some at) refusal next = some (refusal at)
+
+-- The refusal that is given first: the lowest number that applies, where 8 stands beside 4, before 5 and 6.
+unfoldable pub lowest : (kinds words text : List ℕ) (work : ℕ) → Option Refusal
+lowest kinds words text work =
+    refuse (bad-sizes kinds words text) (λ at. Sizes)
+    (refuse (short-work work) ShortWork
+    (refuse (bad-name text) BadName
+    (refuse (bad-record (length (names-of text)) 0 kinds words) (record-refusal kinds)
+    (refuse (no-project (spelled kinds words text)) NoProject
+    (refuse (too-deep-at (spelled kinds words text)) TooDeep
+    none)))))
+
+-- What a call on a project answers: the refusal of what is lent, in the call's own type of answers, or else an answer of its own.
+unfoldable pub unless-refused : {A : Type 0} → Option Refusal → (Refusal → A) → A → A
+unless-refused none refused own = own
+unless-refused (some r) refused own = refused r
 
 -- a report where the lines fit the room; else refusal 7 with the number needed
 unfoldable pub reported : ℕ → Project → Answer
 reported room P = if leb (length (report P)) room then Report (length (report P)) (followed P) else MoreLines (min (length (report P)) 18_446_744_073_709_551_615)
 
--- the lowest refusal that applies, and a report if none does
+-- the refusal that is given first, and a report if none is
 unfoldable pub answer : (kinds words text : List ℕ) (work room : ℕ) → Answer
-answer kinds words text work room =
-    lowest kinds words text work (λ at. Sizes) ShortWork BadName BadRecord NoProject TooDeep (reported room (project-of kinds words text))
+answer kinds words text work room = unless-refused (lowest kinds words text work) Refused (reported room (project-of kinds words text))
 
--- a report or refusal 7: the answers after which lines are written and the work memory is zero
+-- whether lines are written and the work memory is zero after an answer: a report or refusal 7
 unfoldable pub writes : Answer → Bool
-writes a = elim (eqb (refusal-of a) 0) [ true ↦ true | false ↦ eqb (refusal-of a) 7 ]
+writes (Report lines edges) = true
+writes (Refused r) = false
+writes (MoreLines needed) = true
 
 -- the fixed value for none
 abbrev pub no-value : ℕ

@@ -1,4 +1,4 @@
--- The kinds of records and the range of each kind's word: document 01, 'Records, in order of writing', refusal 4.
+-- The kinds of records and the range of each kind's word: document 01, 'Records, in order of writing', refusals 4 and 8.
 -- Assumes nothing: these are definitions.
 use Prim.Native.Nat.{ℕ, _+_}
 use mathlib.Core.Bool.{Bool, true, false}
@@ -42,7 +42,12 @@ in-class names (some a-truth) w = ltb w 2
 in-class names (some any-word) w = true
 in-class names (some a-byte) w = ltb w 256
 
--- the first record whose kind is unknown or whose word is out of range
+-- whether a kind is known
+unfoldable pub is-known : Option WordClass → Bool
+is-known none = false
+is-known (some c) = true
+
+-- the first bad record: its kind is unknown, or its word out of range
 unfoldable pub bad-record : ℕ → ℕ → List ℕ → List ℕ → Option ℕ
 bad-record names at [] ws = none
 bad-record names at (k ∷ ks) [] = none

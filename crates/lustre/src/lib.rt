@@ -3,7 +3,7 @@
 pub mod codes;
 
 ghost use mathlib.Core.Path.{_≡_};
-ghost use Rattle.lustre.specs.Answer.{refusal-of, first-of, second-of};
+ghost use Rattle.lustre.specs.Answer.{number-and-place, refusal-of, first-of, second-of};
 
 // The value of a field that has none: no record, name or line has this number.
 pub const NONE: u64 = 18446744073709551615;
@@ -31,15 +31,22 @@ pub struct Line {
     pub name: u64,
 }
 
-// What a call answers: a report, with its number of lines and the number of edges followed, or one of seven refusals, with its place.
-pub enum Answer {
-    Report(u64, u64),
+// The refusals of what is lent, document 01's 1 to 6 and request 2.2's 8, each with its place. Every call on a project has them.
+pub enum Refusal {
     Sizes,
     ShortWork(u64),
     BadName(u64),
-    BadRecord(u64),
+    BadKind(u64),
+    BadWord(u64),
     NoProject(u64),
     TooDeep(u64),
+}
+
+// What the check of a project answers: a report, with its number of lines and the number of edges followed, or one of eight refusals, with
+// its place.
+pub enum Answer {
+    Report(u64, u64),
+    Refused(Refusal),
     MoreLines(u64),
 }
 
@@ -48,6 +55,49 @@ pub struct Numbers {
     pub refusal: u64,
     pub first: u64,
     pub second: u64,
+}
+
+// The number of a refusal of what is lent and its place, for every call that answers with one.
+pub fn refusal_numbers(r: Refusal) -> Numbers
+    ensures { λ n. ⌜ (n .refusal ≡ number-and-place r .0) × (n .first ≡ number-and-place r .1) × (n .second ≡ 0) ⌝ }
+{
+    match r {
+        Refusal::Sizes => Numbers {
+            refusal: 1,
+            first: 0,
+            second: 0,
+        },
+        Refusal::ShortWork(at) => Numbers {
+            refusal: 2,
+            first: at,
+            second: 0,
+        },
+        Refusal::BadName(at) => Numbers {
+            refusal: 3,
+            first: at,
+            second: 0,
+        },
+        Refusal::BadKind(at) => Numbers {
+            refusal: 4,
+            first: at,
+            second: 0,
+        },
+        Refusal::BadWord(at) => Numbers {
+            refusal: 8,
+            first: at,
+            second: 0,
+        },
+        Refusal::NoProject(at) => Numbers {
+            refusal: 5,
+            first: at,
+            second: 0,
+        },
+        Refusal::TooDeep(at) => Numbers {
+            refusal: 6,
+            first: at,
+            second: 0,
+        },
+    }
 }
 
 pub fn as_numbers(a: Answer) -> Numbers
@@ -59,36 +109,7 @@ pub fn as_numbers(a: Answer) -> Numbers
             first: lines,
             second: followed,
         },
-        Answer::Sizes => Numbers {
-            refusal: 1,
-            first: 0,
-            second: 0,
-        },
-        Answer::ShortWork(at) => Numbers {
-            refusal: 2,
-            first: at,
-            second: 0,
-        },
-        Answer::BadName(at) => Numbers {
-            refusal: 3,
-            first: at,
-            second: 0,
-        },
-        Answer::BadRecord(at) => Numbers {
-            refusal: 4,
-            first: at,
-            second: 0,
-        },
-        Answer::NoProject(at) => Numbers {
-            refusal: 5,
-            first: at,
-            second: 0,
-        },
-        Answer::TooDeep(at) => Numbers {
-            refusal: 6,
-            first: at,
-            second: 0,
-        },
+        Answer::Refused(r) => refusal_numbers(r),
         Answer::MoreLines(at) => Numbers {
             refusal: 7,
             first: at,

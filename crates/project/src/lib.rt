@@ -1,4 +1,4 @@
-// `check_project`, lib.rs 134: the whole report of a project, and the call that answers it or one of the seven refusals: document 01, 'What
+// `check_project`, lib.rs 134: the whole report of a project, and the call that answers it or one of the eight refusals: document 01, 'What
 // is lent'. The report is written in one pass after another over the records, in the order of its lines. A window on the lines may be
 // asked for: those from number `first` on that the buffer has places for are stored, and all are counted.
 use constants::check_constant;
@@ -165,8 +165,8 @@ fn judge(kinds: &[u8], words: &[u64], names: u64, work: &mut [u64], lines: &mut 
     Answer::MoreLines(r.n)
 }
 
-// The check of a project: a report or one of seven refusals. `lines` has six words a line, in the order of the fields of `lustre::Line`.
-// Refusals 1 to 6 change nothing. After a report the lines are written, and after refusal 7 the first that fit; then all work memory is
+// The check of a project: a report or one of eight refusals. `lines` has six words a line, in the order of the fields of `lustre::Line`.
+// Refusals 1 to 6 and 8 change nothing. After a report the lines are written, and after refusal 7 the first that fit; then all work memory is
 // zero.
 pub fn check(
     kinds: &[u8],
@@ -179,11 +179,6 @@ pub fn check(
 {
     match check_input(kinds, words, text, work.len()) {
         Input::Accepted(names) => judge(kinds, words, names, work, lines),
-        Input::Sizes => Answer::Sizes,
-        Input::ShortWork(at) => Answer::ShortWork(at),
-        Input::BadName(at) => Answer::BadName(at),
-        Input::BadRecord(at) => Answer::BadRecord(at),
-        Input::NoProject(at) => Answer::NoProject(at),
-        Input::TooDeep(at) => Answer::TooDeep(at),
+        Input::Refused(r) => Answer::Refused(r),
     }
 }

@@ -1,7 +1,7 @@
 -- The table of words is the definition's, and the first record out of range is found one by one: a law for each answer of `in_range` and `first_bad`.
 -- Assumes nothing.
 use mathlib.Core.Path.{_≡_, refl, ap, sym, _∙_}
-use mathlib.Core.Bool.{Bool, true, false}
+use mathlib.Core.Bool.{Bool, true, false, not}
 use mathlib.Core.List.{List, [], _∷_}
 use mathlib.Core.Option.{Option, none, some}
 use Prim.Native.Nat.{ℕ, _+_, _≤_, _<_}
@@ -11,7 +11,7 @@ use lib.ListN.{length, getD, drop, drop-of-length-le}
 use lib.Seq.{drop-cons}
 use borrow.Author.Tests.{eqb-true}
 use Rattle.lustre.specs.Name.{mem}
-use Rattle.lustre.specs.Records.{WordClass, no-word, a-name, a-count, a-length, a-truth, any-word, a-byte, word-class, class-in, in-class, bad-record}
+use Rattle.lustre.specs.Records.{WordClass, no-word, a-name, a-count, a-length, a-truth, any-word, a-byte, word-class, class-in, is-known, in-class, bad-record}
 use Rattle.lustre.specs.Records as records
 use Rattle.records.specs.Tables.{word-classes, word-number}
 use Rattle.records.proofs.Grammar.{below}
@@ -62,3 +62,15 @@ module _ (names i : ℕ) (ks ws : List ℕ) where
     pub bad-here : r ≡ false → bad-record names i (drop i ks) (drop i ws) ≡ some i
     unfolding bad-record
     bad-here t = rw (drop-cons ks i 0 h, drop-cons ws i 0 g, ← e, t, bad-record)
+
+-- a kind is known where its class of words has a number above 0
+pub known-by : (o : Option WordClass) (c : ℕ) → c ≡ word-number o → not (eqb c 0) ≡ is-known o
+unfolding word-number is-known
+known-by none c e = rw e
+known-by (some no-word) c e = rw e
+known-by (some a-name) c e = rw e
+known-by (some a-count) c e = rw e
+known-by (some a-length) c e = rw e
+known-by (some a-truth) c e = rw e
+known-by (some any-word) c e = rw e
+known-by (some a-byte) c e = rw e

@@ -1,5 +1,6 @@
-// The records: words in range (refusal 4), one project (refusal 5) of bounded levels (refusal 6), and the end of the part that starts
-// at a record. Document 01, 'Records, in order of writing'. Any kinds and words are taken; where one slice is longer, its rest is not read.
+// The records: known kinds (refusal 4) with words in range (refusal 8), one project (refusal 5) of bounded levels (refusal 6), and the end
+// of the part that starts at a record. Document 01, 'Records, in order of writing', and request 2.2. Any kinds and words are taken; where
+// one slice is longer, its rest is not read.
 // Words in range are judged one by one, by a `Reader`; `first_bad` is that on plain slices. The tables of kinds are lustre's grammar in
 // numbers: one computed test over all kinds and sorts shows it.
 mod tables;
@@ -7,7 +8,7 @@ mod tables;
 use reader::Reader;
 ghost use mathlib.Core.Path.{_≡_};
 ghost use Prim.Native.Nat.{_+_, _<_};
-ghost use Rattle.lustre.specs.Records.{word-class, in-class, bad-record};
+ghost use Rattle.lustre.specs.Records.{word-class, is-known, in-class, bad-record};
 ghost use Rattle.records.specs.Ranges.{judged, bad-from, record-at};
 ghost use Rattle.records.specs.Places.{mark, class-at, Passed};
 ghost use Rattle.records.specs.Stands.{End-asked, End-of};
@@ -329,6 +330,13 @@ fn word_class(kind: u8) -> u8
     0
 }
 
+// Whether a kind is known.
+pub fn is_known(kind: u8) -> bool
+    ensures { λ r. ⌜ r ≡ is-known (word-class kind) ⌝ }
+{
+    word_class(kind) != 0
+}
+
 // Whether a word is in the range of its kind, where there are so many names.
 fn in_range(names: u64, kind: u8, word: u64) -> bool
     ensures { λ r. ⌜ r ≡ in-class names (word-class kind) word ⌝ }
@@ -388,7 +396,7 @@ pub fn first_bad_from<'a>(r: Reader<'a>, names: u64) -> Place
     place_at(s.at, count)
 }
 
-// Refusal 4: the first record whose kind is unknown or whose word is out of range. It makes a reader, and walks by it.
+// Refusals 4 and 8: the first record whose kind is unknown or whose word is out of range. It makes a reader, and walks by it.
 pub fn first_bad(kinds: &[u8], words: &[u64], names: u64) -> Place
     ensures { λ r. ⌜ r ≡ placed (bad-record names 0 (now (kinds .entry)) (now (words .entry))) ⌝ }
 {

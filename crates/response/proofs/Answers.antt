@@ -12,13 +12,14 @@ use lib.ListN.{length, take, drop, replicate, length-map, length-replicate}
 use lib.Seq.{take-all, take-length, take-take, take-append-seam}
 use Rattle.lustre.specs.Name.{if_then_else_}
 use Rattle.lustre.specs.Names.{bad-name, names-of}
-use Rattle.lustre.specs.Records.{bad-record}
 use Rattle.lustre.specs.Project.{Project}
 use Rattle.lustre.specs.Report.{report, followed}
-use Rattle.lustre.specs.Answer.{refusal-of, first-of, bad-sizes, short-work, no-project, spelled, too-deep-at, project-of, refuse, lowest, reported, answer, writes, stored, stored-report, over, lines-after}
+use Rattle.lustre.specs.Answer.{refusal-of, first-of, project-of, lowest, reported, answer, writes, stored, stored-report, over, lines-after}
 use Rattle.lustre.specs.declared.Line.{Line}
 use Rattle.lustre.specs.declared.Answer.{Answer}
-use Rattle.lustre.specs.declared.Answer.the-variants.{Report as Reporting, Sizes, ShortWork, BadName, BadRecord, NoProject, TooDeep, MoreLines}
+use Rattle.lustre.specs.declared.Answer.the-variants.{Report as Reporting, Refused, MoreLines}
+use Rattle.lustre.specs.declared.Refusal.the-variants.{Sizes}
+use Rattle.lustre.proofs.Lowest.{refusal-above, reports, passes}
 use Rattle.staging.specs.Batches.{blank}
 use Rattle.checker.specs.Call.{All-checked}
 use Rattle.checker.specs.declared.Report.{Report}
@@ -33,29 +34,12 @@ use Rattle.format.proofs.Callers.{decoded-wrong, decoded-parts}
 use Rattle.response.specs.declared.Response.{Response}
 use Rattle.response.specs.Response.{wrong-report, any-error, status-of, lines-to, status-to, Answered, Responded}
 
--- a refusal that does not apply
-passed : (o : Option ℕ) (f : ℕ → Answer) (rest : Answer) → ((at : ℕ) → refusal-of (f at) ≡ 0 → ⊥) → refusal-of (refuse o f rest) ≡ 0 → (o ≡ none) × (refuse o f rest ≡ rest)
-unfolding refuse
-passed none f rest h e = (refl, refl)
-passed (some at) f rest h e = absurd (h at e)
-
--- a report is what is left when no refusal from 1 to 6 applies; refusal 3 does not
+-- a report is what is left when nothing is refused; refusal 3 does not apply
 report-only : (kinds ws text : List ℕ) (work room : ℕ) → refusal-of (answer kinds ws text work room) ≡ 0 → (bad-name text ≡ none) × (answer kinds ws text work room ≡ reported room (project-of kinds ws text))
-unfolding answer lowest
+unfolding answer
 report-only kinds ws text work room e =
-    let r₇ : Answer = reported room (project-of kinds ws text) in
-    let r₆ : Answer = refuse (too-deep-at (spelled kinds ws text)) TooDeep r₇ in
-    let r₅ : Answer = refuse (no-project (spelled kinds ws text)) NoProject r₆ in
-    let r₄ : Answer = refuse (bad-record (length (names-of text)) 0 kinds ws) BadRecord r₅ in
-    let r₃ : Answer = refuse (bad-name text) BadName r₄ in
-    let r₂ : Answer = refuse (short-work work) ShortWork r₃ in
-    let p₁ = passed (bad-sizes kinds ws text) (λ at. Sizes) r₂ (λ at z. omega arith) e in
-    let p₂ = passed (short-work work) ShortWork r₃ (λ at z. omega arith) (ap refusal-of (sym (p₁ .1)) ∙ e) in
-    let p₃ = passed (bad-name text) BadName r₄ (λ at z. omega arith) (ap refusal-of (sym (p₁ .1 ∙ p₂ .1)) ∙ e) in
-    let p₄ = passed (bad-record (length (names-of text)) 0 kinds ws) BadRecord r₅ (λ at z. omega arith) (ap refusal-of (sym (p₁ .1 ∙ p₂ .1 ∙ p₃ .1)) ∙ e) in
-    let p₅ = passed (no-project (spelled kinds ws text)) NoProject r₆ (λ at z. omega arith) (ap refusal-of (sym (p₁ .1 ∙ p₂ .1 ∙ p₃ .1 ∙ p₄ .1)) ∙ e) in
-    let p₆ = passed (too-deep-at (spelled kinds ws text)) TooDeep r₇ (λ at z. omega arith) (ap refusal-of (sym (p₁ .1 ∙ p₂ .1 ∙ p₃ .1 ∙ p₄ .1 ∙ p₅ .1)) ∙ e) in
-    (p₃ .0, p₁ .1 ∙ p₂ .1 ∙ p₃ .1 ∙ p₄ .1 ∙ p₅ .1 ∙ p₆ .1)
+    let o = reports (lowest kinds ws text work) (reported room (project-of kinds ws text)) e in
+    (passes kinds ws text work (o .0) .named, o .1)
 
 -- a report has as many lines as it says, and they fit the room
 reported-fits : (room : ℕ) (P : Project) → refusal-of (reported room P) ≡ 0 → (first-of (reported room P) ≡ length (report P)) × (length (report P) ≤ room)
@@ -95,7 +79,9 @@ over-holds ls lent h = ap (λ (xs : List Line). take (length ls) (xs ++ drop (le
 -- a report is an answer after which lines are written
 report-writes : (a : Answer) → refusal-of a ≡ 0 → writes a ≡ true
 unfolding writes
-report-writes a z = ap (λ (b : Bool). elim b [ true ↦ true | false ↦ eqb (refusal-of a) 7 ]) (eq-eqb (refusal-of a) 0 z)
+report-writes (Reporting lines edges) z = refl
+report-writes (Refused r) z = absurd (refusal-above r z)
+report-writes (MoreLines needed) z = refl
 
 -- those that fit
 report-over : (kinds ws text : List ℕ) (work : ℕ) (lent : List Line) (a : Answer) → a ≡ answer kinds ws text work (length lent) → refusal-of a ≡ 0 → lines-after kinds ws text work lent ≡ over (stored-report kinds ws text) lent
@@ -209,7 +195,7 @@ responded file o o′ work work′ text a r four c t f s = go (parse file) refl
   where
     go : (p : Option Model) → parse file ≡ p → Responded file o r o′
     go none e =
-        let z : a .answer ≡ Sizes = ap (λ (x : Report). x .answer) (c .wrong e .0) in
+        let z : a .answer ≡ Refused Sizes = ap (λ (x : Report). x .answer) (c .wrong e .0) in
         let h : refusal-of (a .answer) ≡ 0 → ⊥ = λ y. let q : _≡_ {A = ℕ} 1 0 = ap refusal-of (sym z) ∙ y in omega arith in
         record {
           filled = rw e (subst (λ bs. Filled bs o 0 (r .size) o′) (refused-output (a .answer) (a .lines) text h ∙ ap (λ (x : Answer). header x ∷ []) z) f);

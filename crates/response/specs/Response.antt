@@ -13,7 +13,8 @@ use Rattle.lustre.specs.Line.{Severity, Error, Warning, severity}
 use Rattle.lustre.specs.Answer.{refusal-of, answer, stored-report}
 use Rattle.lustre.specs.declared.Line.{Line}
 use Rattle.lustre.specs.declared.Answer.{Answer}
-use Rattle.lustre.specs.declared.Answer.the-variants.{Sizes}
+use Rattle.lustre.specs.declared.Answer.the-variants.{Refused}
+use Rattle.lustre.specs.declared.Refusal.the-variants.{Sizes}
 use Rattle.format.specs.File.{Model, parse}
 use Rattle.format.specs.Output.{header, line-count, output-lines, output}
 use Rattle.format.specs.Buffers.{Rendered, Filled}
@@ -24,7 +25,7 @@ use Rattle.response.specs.declared.Response.{Response}
 
 -- the report on a wrong file: refusal 1, and blank lines
 abbrev pub wrong-report : Report
-wrong-report = record { answer = Sizes; lines = replicate 1024 blank }
+wrong-report = record { answer = Refused Sizes; lines = replicate 1024 blank }
 
 -- whether a line of this severity is an error
 unfoldable pub is-error : Severity → Bool
@@ -48,7 +49,7 @@ pub record Answered (file work : List ℕ) (room : ℕ) (r : Report) (work′ : 
 
 -- the lines that are printed for what a file holds, with 4,096 work words and 1,024 lines lent
 unfoldable pub lines-to : Option Model → List (List ℕ)
-lines-to none = header Sizes ∷ []
+lines-to none = header (Refused Sizes) ∷ []
 lines-to (some m) = output-lines (answer (m .kinds) (m .words) (m .text) 4096 1024) (stored-report (m .kinds) (m .words) (m .text)) (m .text)
 
 -- the status for what a file holds

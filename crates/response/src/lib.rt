@@ -11,6 +11,7 @@ use format::output::render_line;
 use format::text_in;
 use lustre::Answer;
 use lustre::Line;
+use lustre::Refusal;
 use lustre::as_numbers;
 ghost use Prim.Native.Nat.{_≤_};
 ghost use mathlib.Core.Path.{_≡_};
@@ -49,7 +50,7 @@ fn wrong() -> Report
         name: 0,
     };
     Report {
-        answer: Answer::Sizes,
+        answer: Answer::Refused(Refusal::Sizes),
         lines: [line; LINES],
     }
 }

@@ -6,7 +6,6 @@ use native.Mathlib.Decide.{decLt}
 use mathlib.Core.Path.{_≡_, refl, sym, ap, subst, _∙_}
 use mathlib.Core.Bool.{Bool, true, false}
 use mathlib.Core.List.{List, [], map}
-use mathlib.Core.Option.{none, some}
 use lib.ListN.{length, getD, take, replicate, length-take, length-map, length-replicate}
 use lib.Seq.{getD-take, take-all}
 use borrow.Author.Tests.{le-leb, lt-leb}
@@ -14,8 +13,8 @@ use Rattle.lustre.specs.Names.{names-of}
 use Rattle.lustre.specs.Report.{report, followed}
 use Rattle.lustre.specs.Answer.{refusal-of, first-of, second-of, answer, reported, writes, project-of, stored, stored-report, work-after}
 use Rattle.lustre.specs.declared.Line.{Line}
-use Rattle.lustre.specs.declared.Answer.{Answer}
-use Rattle.lustre.specs.declared.Answer.the-variants.{Report, Sizes, ShortWork, BadName, BadRecord, NoProject, TooDeep, MoreLines}
+use Rattle.lustre.specs.declared.Answer.the-variants.{Report, Refused, MoreLines}
+use Rattle.lustre.specs.declared.Refusal.{Refusal}
 use Rattle.input.specs.Input.{judged}
 use Rattle.input.specs.declared.Input.{Input}
 use Rattle.input.specs.declared.Input.the-variants as Answers
@@ -30,7 +29,7 @@ use Rattle.project.proofs.Lines.{report-stored}
 use Rattle.nodes.specs.Nodes.{Blank}
 use Rattle.project.proofs.Nodes.{blank-front}
 use Rattle.project.proofs.Closed.{closed-count}
-use Rattle.project.proofs.Answers.{refusal, answer-accepted, answer-refused, count-is, aliases-accepted, work-accepted, reported-writes, refusal-keeps}
+use Rattle.project.proofs.Answers.{answer-accepted, answer-refused, count-is, aliases-accepted, work-accepted, reported-writes}
 use Rattle.staging.specs.declared.Batch.{Batch}
 use Rattle.staging.specs.Batches.{due, blank, Sums, Batched, Going}
 use Rattle.staging.specs.Steps.{refused-with, fitting, overfull, counted, Begun}
@@ -46,30 +45,31 @@ module _ (ks ws text : List ℕ) where
   work-if lent space t e = ap (λ (s : Bool). elim s [ true ↦ replicate (length lent) 0 | false ↦ lent ]) e
 
 -- ---- refused input
-module _ (ks ws text : List ℕ) (work space : ℕ) (i : Input) (r : Answer) (j : i ≡ judged ks ws text work) (e : refusal i ≡ some r) where
+module _ (ks ws text : List ℕ) (work space : ℕ) (i : Input) (r : Refusal) (j : i ≡ judged ks ws text work) (e : i ≡ Answers.Refused r) where
   -- its answer
-  refused-answer : answer ks ws text work space ≡ r
-  refused-answer = answer-refused ks ws text work r space (ap refusal (sym j) ∙ e)
+  refused-answer : answer ks ws text work space ≡ Refused r
+  refused-answer = answer-refused ks ws text work r space (sym j ∙ e)
 
   -- no line is written
   refused-writes : writes (answer ks ws text work space) ≡ false
-  refused-writes = ap writes refused-answer ∙ refusal-keeps i r e
+  unfolding writes
+  refused-writes = ap writes refused-answer
 
   -- no line is due
   refused-due : length (due ks ws text work space) ≡ 0
   refused-due = ap length (due-if ks ws text work space false refused-writes)
 
 -- the batch of refused input stands in the work memory as it was
-pub refused-batched : (ks ws text lent : List ℕ) (space : ℕ) (i : Input) (r : Answer) (b : Batch) → i ≡ judged ks ws text (length lent) → refusal i ≡ some r
-    → b ≡ refused-with (refusal-of r) (first-of r) → second-of r ≡ 0 → Batched ks ws text lent space b lent × (b .at ≡ 0)
-refused-batched ks ws text lent space i r b j e eb z =
+pub refused-batched : (ks ws text lent : List ℕ) (space : ℕ) (i : Input) (r : Refusal) (b : Batch) → i ≡ judged ks ws text (length lent) → i ≡ Answers.Refused r
+    → b ≡ refused-with r → Batched ks ws text lent space b lent × (b .at ≡ 0)
+refused-batched ks ws text lent space i r b j e eb =
     let is = refused-answer ks ws text (length lent) space i r j e in
     subst (λ (c : Batch). Batched ks ws text lent space c lent × (c .at ≡ 0)) (sym eb) (
       record {
         sums = record {
           refusal = sym (ap refusal-of is);
           first = sym (ap first-of is);
-          second = sym (ap second-of is ∙ z);
+          second = sym (ap second-of is);
           goal = sym (refused-due ks ws text (length lent) space i r j e);
           names = λ h. absurd (omega arith);
         };
@@ -88,17 +88,9 @@ refused-batched ks ws text lent space i r b j e eb z =
 pub accepted-of : (ks ws text : List ℕ) (work space : ℕ) → 0 < length (due ks ws text work space) → (n : ℕ) × (judged ks ws text work ≡ Answers.Accepted n)
 accepted-of ks ws text work space h = go (judged ks ws text work) refl
   where
-    none-due : (i : Input) (r : Answer) → judged ks ws text work ≡ i → refusal i ≡ some r → ⊥
-    none-due i r j e = omega (arith, h, refused-due ks ws text work space i r (sym j) e)
-
     go : (i : Input) → judged ks ws text work ≡ i → (n : ℕ) × (judged ks ws text work ≡ Answers.Accepted n)
     go (Answers.Accepted n) j = (n, j)
-    go Answers.Sizes j = absurd (none-due Answers.Sizes Sizes j refl)
-    go (Answers.ShortWork at) j = absurd (none-due (Answers.ShortWork at) (ShortWork at) j refl)
-    go (Answers.BadName at) j = absurd (none-due (Answers.BadName at) (BadName at) j refl)
-    go (Answers.BadRecord at) j = absurd (none-due (Answers.BadRecord at) (BadRecord at) j refl)
-    go (Answers.NoProject at) j = absurd (none-due (Answers.NoProject at) (NoProject at) j refl)
-    go (Answers.TooDeep at) j = absurd (none-due (Answers.TooDeep at) (TooDeep at) j refl)
+    go (Answers.Refused r) j = absurd (omega (arith, h, refused-due ks ws text work space (Answers.Refused r) r (sym j) refl))
 
 module _ (ks ws text lent : List ℕ) (space n : ℕ) (e : judged ks ws text (length lent) ≡ Answers.Accepted n) where
   -- the work memory is long enough

@@ -12,7 +12,7 @@ use Rattle.lustre.specs.declared.Answer.{Answer}
 use Rattle.lines.specs.Lines.{line-in}
 use Rattle.staging.specs.declared.Batch.{Batch}
 
--- the lines that the call stores: those of the report that fit the room; none after refusals 1 to 6
+-- the lines that the call stores: those of the report that fit the room; none after any other refusal than 7
 unfoldable pub due : (kinds words text : List ℕ) (work room : ℕ) → List Line
 due kinds words text work room = elim (writes (answer kinds words text work room)) [ true ↦ take room (stored-report kinds words text) | false ↦ [] ]
 

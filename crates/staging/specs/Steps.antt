@@ -5,13 +5,15 @@ use mathlib.Core.Path.{_≡_}
 use mathlib.Core.List.{List}
 use lib.ListN.{length, replicate}
 use Rattle.lustre.specs.Report.{report, followed}
+use Rattle.lustre.specs.Answer.{number-and-place}
+use Rattle.lustre.specs.declared.Refusal.{Refusal}
 use Rattle.scope.specs.Model.{Model}
 use Rattle.scope.specs.Writes.{Reports}
 use Rattle.staging.specs.declared.Batch.{Batch}
 
 -- refused input: no line is due
-abbrev pub refused-with : ℕ → ℕ → Batch
-refused-with refusal place = record { refusal = refusal; first = place; second = 0; names = 0; goal = 0; at = 0; count = 0 }
+abbrev pub refused-with : Refusal → Batch
+refused-with r = record { refusal = number-and-place r .0; first = number-and-place r .1; second = 0; names = 0; goal = 0; at = 0; count = 0 }
 
 -- n lines that fit
 abbrev pub fitting : ℕ → ℕ → ℕ → Batch

@@ -1,10 +1,12 @@
-// Batches of the report in the work memory: document 01, 'What is lent'. `first_batch` answers refusals 1 to 6, or counts all lines and
-// writes the first of them, six words each, into the work memory; `next_batch` writes the next. When none is left to store the work memory
-// is cleared, all of it. So a report may have more lines than the work memory has places for: each batch takes one pass over the project.
-// Refusals 1 to 6 change nothing. A batch is plain numbers, so that whoever stores the lines has nothing to compute.
+// Batches of the report in the work memory: document 01, 'What is lent'. `first_batch` answers the refusals of what is lent, or counts all
+// lines and writes the first of them, six words each, into the work memory; `next_batch` writes the next. When none is left to store the
+// work memory is cleared, all of it. So a report may have more lines than the work memory has places for: each batch takes one pass over the
+// project. Refused input changes nothing. A batch is plain numbers, so that whoever stores the lines has nothing to compute.
 use input::Input;
 use input::check_input;
 use lustre::Answer;
+use lustre::Refusal;
+use lustre::refusal_numbers;
 use project::clear;
 use project::report;
 ghost use mathlib.Core.Path.{_≡_};
@@ -30,12 +32,13 @@ pub struct Batch {
 }
 
 // The batch of refused input: no line is due.
-fn refuse(refusal: u64, place: u64) -> Batch
-    ensures { λ r. ⌜ r ≡ refused-with refusal place ⌝ }
+fn refuse(r: Refusal) -> Batch
+    ensures { λ b. ⌜ b ≡ refused-with r ⌝ }
 {
+    let n = refusal_numbers(r);
     Batch {
-        refusal,
-        first: place,
+        refusal: n.refusal,
+        first: n.first,
         second: 0,
         names: 0,
         goal: 0,
@@ -104,19 +107,14 @@ fn begin(kinds: &[u8], words: &[u64], names: u64, work: &mut [u64], room: usize)
     count(b, work.len())
 }
 
-// The first batch: one of refusals 1 to 6, or the first lines of the report.
+// The first batch: a refusal of what is lent, or the first lines of the report.
 pub fn first_batch(kinds: &[u8], words: &[u64], text: &[u8], work: &mut [u64], room: usize) -> Batch
     requires { ⌜ room < 2 ^ 63 ⌝ }
     ensures { λ r. ⌜ Batched (now (kinds .entry)) (now (words .entry)) (now (text .entry)) (now (work .entry)) room r (now (work .exit)) × (r .at ≡ 0) ⌝ }
 {
     match check_input(kinds, words, text, work.len()) {
         Input::Accepted(names) => begin(kinds, words, names, work, room),
-        Input::Sizes => refuse(1, 0),
-        Input::ShortWork(at) => refuse(2, at),
-        Input::BadName(at) => refuse(3, at),
-        Input::BadRecord(at) => refuse(4, at),
-        Input::NoProject(at) => refuse(5, at),
-        Input::TooDeep(at) => refuse(6, at),
+        Input::Refused(r) => refuse(r),
     }
 }
 
@@ -151,12 +149,13 @@ pub fn answer_of(b: Batch) -> Answer
     let refusal = b.refusal;
     match refusal {
         0 => Answer::Report(b.first, b.second),
-        1 => Answer::Sizes,
-        2 => Answer::ShortWork(b.first),
-        3 => Answer::BadName(b.first),
-        4 => Answer::BadRecord(b.first),
-        5 => Answer::NoProject(b.first),
-        6 => Answer::TooDeep(b.first),
-        _ => Answer::MoreLines(b.first),
+        1 => Answer::Refused(Refusal::Sizes),
+        2 => Answer::Refused(Refusal::ShortWork(b.first)),
+        3 => Answer::Refused(Refusal::BadName(b.first)),
+        4 => Answer::Refused(Refusal::BadKind(b.first)),
+        5 => Answer::Refused(Refusal::NoProject(b.first)),
+        6 => Answer::Refused(Refusal::TooDeep(b.first)),
+        7 => Answer::MoreLines(b.first),
+        _ => Answer::Refused(Refusal::BadWord(b.first)),
     }
 }

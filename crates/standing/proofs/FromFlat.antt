@@ -88,7 +88,7 @@ passed : (from : ℕ) (b : Bool) (rest : Option ℕ) → _≡_ {A = Option ℕ} 
 passed from true rest q = (refl, q)
 passed from false rest q = (cc, cc)
 
--- the words of records that refusal 4 passes are in their kinds' ranges
+-- where no record is bad, the words are in their kinds' ranges
 pub words-ranged : (names from : ℕ) (ks ws : List ℕ) → length ks ≡ length ws → bad-record names from ks ws ≡ none
     → (at : ℕ) → at < length ks → in-class names (word-class (getD ks at 0)) (getD ws at 0) ≡ true
 unfolding bad-record

@@ -26,9 +26,12 @@ returns-7 : tie.Need-returns-7
 returns-7 c = says-told (c .before .args .b) _ 6 (c .match .keys7) refl
 
 returns-8 : tie.Need-returns-8
-returns-8 c = let h = c .match .rest in says-told (c .before .args .b) _ (c .before .args .b .refusal) refl (told-last (c .before .args .b .refusal) (c .before .args .b .first) (c .before .args .b .second) (h .0 .0 .0 .0 .0 .0 .1) (h .0 .0 .0 .0 .0 .1) (h .0 .0 .0 .0 .1) (h .0 .0 .0 .1) (h .0 .0 .1) (h .0 .1) (h .1))
+returns-8 c = says-told (c .before .args .b) _ 7 (c .match .keys8) refl
+
+returns-9 : tie.Need-returns-9
+returns-9 c = let h = c .match .rest in says-told (c .before .args .b) _ (c .before .args .b .refusal) refl (told-last (c .before .args .b .refusal) (c .before .args .b .first) (c .before .args .b .second) (h .0 .0 .0 .0 .0 .0 .0 .1) (h .0 .0 .0 .0 .0 .0 .1) (h .0 .0 .0 .0 .0 .1) (h .0 .0 .0 .0 .1) (h .0 .0 .0 .1) (h .0 .0 .1) (h .0 .1) (h .1))
 
 pub answer-of-spec : {M : Type 1} → statement M
 answer-of-spec =
     tie.close
-    (tie.spec returns returns-2 returns-3 returns-4 returns-5 returns-6 returns-7 returns-8)
+    (tie.spec returns returns-2 returns-3 returns-4 returns-5 returns-6 returns-7 returns-8 returns-9)
