@@ -24,7 +24,7 @@ use Rattle.project.specs.Call.{buffer-after}
 use Rattle.project.specs.Demands as Words
 use Rattle.project.specs.Demands.{loop-lines}
 use Rattle.project.proofs.Demands as Words-proved
-use Rattle.checker.specs.Demands.{Check, Reported, records, project, lines-of, Reports, Demand-3, No-stray, Demand-2-loops}
+use Rattle.checker.specs.Demands.{Check, Reported, records, project, lines-of, Reports, Demand-3, Unused-names, No-stray, Demand-2-loops}
 
 -- ---- the call as the definition has it
 
@@ -94,6 +94,12 @@ as-words c r = lines-spoken c r ∙ sym (Words-proved.lines-spoken (on-words c) 
 -- every report is about a project
 pub reports : Reports
 reports c r = let h = Words-proved.report-of (on-words c) (reported c r) in record { written = h .written; node = h .node; edges = h .edges }
+
+-- two editions that differ only in unused names
+pub unused-names : Unused-names
+unused-names c d r s e =
+    let h = Words-proved.unused-names (on-words c) (on-words d) (reported c r) (reported d s) e in
+    (as-words c r ∙ h .0 ∙ sym (as-words d s), h .1)
 
 -- demand 2 on E0060
 pub demand-2-loops : Demand-2-loops

@@ -71,6 +71,13 @@ Demand-3 = (c d : Check) (r : Reported c) (s : Reported d)
     → (about-no-node (lines-of c r) ≡ about-no-node (lines-of d s))
     × ((i : ℕ) → node-part i (records c) ≡ node-part i (records d) → about i (lines-of c r) ≡ about i (lines-of d s))
 
+-- Two editions of a model that differ only in unused names get equal lines, where both get a report (request 2.2). Their records are then
+-- equal with each name as its text, whatever its number; the number of edges followed is the same too.
+abbrev pub Unused-names : Type 0
+Unused-names = (c d : Check) (r : Reported c) (s : Reported d)
+    → records c ≡ records d
+    → (lines-of c r ≡ lines-of d s) × (r .edges ≡ s .edges)
+
 -- no line has a number that is no name's
 abbrev pub No-stray : Type 0
 No-stray = (c : Check) (r : Reported c) (l : Said) → List·Memᴰ l (lines-of c r) → (w : ℕ) → l .name ≡ stray w → ⊥

@@ -13,12 +13,13 @@ use lib.Seq.{take-all, getD-drop}
 use borrow.Author.Tests.{eq-eqb}
 use Rattle.lustre.specs.Name.{Name, if_then_else_}
 use Rattle.lustre.specs.Names.{names-of, name-at}
+use Rattle.lustre.specs.Records.{Rec}
 use Rattle.lustre.specs.Project.{Project, Equation}
 use Rattle.lustre.specs.Line as Report
 use Rattle.lustre.specs.Report.{report, followed, of-place}
 use Rattle.lustre.specs.Node.{path-notes, of-node}
 use Rattle.lustre.specs.Walk.{rust-search}
-use Rattle.lustre.specs.Answer.{answer, reported, refusal-of, second-of, spelled, project-of, or-none, place-number, writes, stored, stored-report}
+use Rattle.lustre.specs.Answer.{answer, reported, refusal-of, second-of, spelled, project-read, project-of, or-none, place-number, writes, stored, stored-report}
 use Rattle.lustre.specs.declared.Line.{Line}
 use Rattle.lustre.specs.declared.Answer.the-variants.{Report, MoreLines}
 use Rattle.demands.specs.Nodes.{keep, about-node}
@@ -39,7 +40,7 @@ use Rattle.demands.proofs.Demand3 as Proved
 use Rattle.lines.specs.Lines.{words, room, line-in}
 use Rattle.project.specs.Call.{over-words, buffer-after}
 use Rattle.project.proofs.Answers.{answer-report}
-use Rattle.project.specs.Demands.{Check, Reported, records, project, lines-in, lines-of, Report-of, Demand-3, No-stray, loop-lines, path-lines, Operator-lines, Demand-2-loops}
+use Rattle.project.specs.Demands.{Check, Reported, records, project, lines-in, lines-of, Report-of, Demand-3, Unused-names, No-stray, loop-lines, path-lines, Operator-lines, Demand-2-loops}
 
 -- ---- lines in a buffer
 
@@ -141,6 +142,14 @@ module _ (c : Check) (r : Reported c) where
 -- demand 3, by that of the definition
 pub demand-3 : Demand-3
 demand-3 c d r s e = rw (same-lines c r, same-lines d s) (Proved.demand-3 (call c) (call d) (given c r) (given d s) e)
+
+-- equal records are one project, and a report's lines, with names as texts, and edges are functions of it
+pub unused-names : Unused-names
+unfolding project-of
+unused-names c d r s e = (
+  lines-spoken c r ∙ ap (λ (rs : List Rec). map spoken (report (project-read rs))) e ∙ sym (lines-spoken d s),
+  report-of c r .edges ∙ ap (λ (rs : List Rec). followed (project-read rs)) e ∙ sym (report-of d s .edges),
+)
 
 -- every number of a name is a name's, by the same
 pub no-stray : No-stray
