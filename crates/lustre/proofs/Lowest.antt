@@ -9,7 +9,7 @@ use mathlib.Core.Option.{Option, none, some}
 use lib.ListN.{length}
 use Rattle.lustre.specs.Names.{bad-name, names-of}
 use Rattle.lustre.specs.Records.{bad-record}
-use Rattle.lustre.specs.Answer.{number-and-place, refusal-of, bad-sizes, short-work, spelled, no-project, too-deep-at, refuse, record-refusal, lowest, unless-refused}
+use Rattle.lustre.specs.Answer.{number-and-place, refusal-of, bad-sizes, short-work, spelled, no-project, too-deep-at, refuse, lowest, unless-refused}
 use Rattle.lustre.specs.declared.Answer.{Answer}
 use Rattle.lustre.specs.declared.Answer.the-variants.{Refused}
 use Rattle.lustre.specs.declared.Refusal.{Refusal}

@@ -171,7 +171,7 @@ records =
     ∷ (calling ((8, 7) ∷ []) (text "b\0a\0") answers Refused (BadName 1))
     ∷ (calling ((2, 0) ∷ (85, 0) ∷ []) (text "a\0") answers Refused (BadKind 1))
     ∷ (calling ((3, 0) ∷ (2, 0) ∷ []) [] answers Refused (BadWord 1))
-    -- a name that no record uses brings a number into range
+    -- one name more brings a number into range
     ∷ (calling ((1, 1) ∷ (2, 1) ∷ (3, 0) ∷ (3, 0) ∷ (3, 0) ∷ []) (text "p\0") answers Refused (BadWord 1))
     ∷ (calling ((1, 1) ∷ (2, 1) ∷ (3, 0) ∷ (3, 0) ∷ (3, 0) ∷ []) (text "p\0q\0") answers Report 0 0)
     ∷ []

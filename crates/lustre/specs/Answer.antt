@@ -1,4 +1,4 @@
--- The answer of a call and what the lent buffers hold after it: document 01, 'What is lent'.
+-- The answer of a call and what the lent buffers hold after it: document 01, 'What is lent', and request 2.2.
 -- Assumes nothing: these are definitions.
 use Prim.Native.Nat.{ℕ, _-_, min}
 use mathlib.Core.Bool.{Bool, true, false, _&&_}

@@ -11,7 +11,7 @@ use lib.Seq.{getD-take, take-all}
 use borrow.Author.Tests.{le-leb, lt-leb}
 use Rattle.lustre.specs.Names.{names-of}
 use Rattle.lustre.specs.Report.{report, followed}
-use Rattle.lustre.specs.Answer.{refusal-of, first-of, second-of, answer, reported, writes, project-of, stored, stored-report, work-after}
+use Rattle.lustre.specs.Answer.{answer, reported, writes, project-of, stored, stored-report, work-after}
 use Rattle.lustre.specs.declared.Line.{Line}
 use Rattle.lustre.specs.declared.Answer.the-variants.{Report, Refused, MoreLines}
 use Rattle.lustre.specs.declared.Refusal.{Refusal}
@@ -67,9 +67,7 @@ refused-batched ks ws text lent space i r b j e eb =
     subst (λ (c : Batch). Batched ks ws text lent space c lent × (c .at ≡ 0)) (sym eb) (
       record {
         sums = record {
-          refusal = sym (ap refusal-of is);
-          first = sym (ap first-of is);
-          second = sym (ap second-of is);
+          answered = sym is;
           goal = sym (refused-due ks ws text (length lent) space i r j e);
           names = λ h. absurd (omega arith);
         };
@@ -125,7 +123,7 @@ module _ (ks ws text lent : List ℕ) (space n : ℕ) (e : judged ks ws text (le
         let all : m ≡ length (report (project-of ks ws text)) = omega arith in
         let told : Report m looks ≡ reported space (project-of ks ws text) = rw (le-leb (length (report (project-of ks ws text))) space few, all, f) in
         let a : Report m looks ≡ answer ks ws text (length lent) space = told ∙ sym answered in
-        record { refusal = ap refusal-of a; first = ap first-of a; second = ap second-of a; goal = omega (arith, length-due); names = λ _. refl }
+        record { answered = a; goal = omega (arith, length-due); names = λ _. refl }
 
     -- and of one that does not
     sums-many : space < m → Sums ks ws text (length lent) space (overfull m (length (names-of text)) space)
@@ -134,7 +132,7 @@ module _ (ks ws text lent : List ℕ) (space n : ℕ) (e : judged ks ws text (le
         let many : space < length (report (project-of ks ws text)) = omega arith in
         let told : MoreLines m ≡ reported space (project-of ks ws text) = rw (lt-leb (length (report (project-of ks ws text))) space many, is) in
         let a : MoreLines m ≡ answer ks ws text (length lent) space = told ∙ sym answered in
-        record { refusal = ap refusal-of a; first = ap first-of a; second = ap second-of a; goal = omega (arith, length-due); names = λ _. refl }
+        record { answered = a; goal = omega (arith, length-due); names = λ _. refl }
 
   -- the lines from one on that a pass has written
   lines-at : (o o′ : List ℕ) (m first : ℕ) → Reports (model (accepts ks ws text (length lent) n e) .number) first (report (project-of ks ws text)) o 0 m o′ → first + room o < 2 ^ 64
@@ -153,7 +151,7 @@ module _ (ks ws text lent : List ℕ) (space n : ℕ) (e : judged ks ws text (le
       let same : length o′ ≡ length o = ap length (r .out) ∙ length-puts o (b .at) 0 (map (line-by (model (accepts ks ws text (length lent) n e) .number)) (report (project-of ks ws text))) in
       let g = s .goal in
       record {
-        sums = record { refusal = s .refusal; first = s .first; second = s .second; goal = s .goal; names = s .names };
+        sums = record { answered = s .answered; goal = s .goal; names = s .names };
         within = omega arith;
         some = λ _. omega (arith, enough);
         fits = omega arith;
@@ -221,8 +219,8 @@ blank-graph =
 
 -- the batch b with k lines, where k of them are due and have places
 pub counted-with : (b : Batch) (len k : ℕ) → k ≡ min (b .goal - b .at) (len / 6)
-    → record { refusal = b .refusal; first = b .first; second = b .second; names = b .names; goal = b .goal; at = b .at; count = k } ≡ counted b len
-counted-with b len k e = ap (λ (m : ℕ). record { refusal = b .refusal; first = b .first; second = b .second; names = b .names; goal = b .goal; at = b .at; count = m }) e
+    → record { answer = b .answer; names = b .names; goal = b .goal; at = b .at; count = k } ≡ counted b len
+counted-with b len k e = ap (λ (m : ℕ). record { answer = b .answer; names = b .names; goal = b .goal; at = b .at; count = m }) e
 
 -- the sum of n lines begins at the first
 pub sum-within : (n looks names space : ℕ) (b : Batch) → (n ≤ space → b ≡ fitting n looks names) × (space < n → b ≡ overfull n names space) → b .at ≤ b .goal
@@ -291,10 +289,10 @@ module _ (ks ws work : List ℕ) (b : Batch) (g : Going ks ws work b) where
   )
 
   abbrev moved : Batch
-  moved = record { refusal = b .refusal; first = b .first; second = b .second; names = b .names; goal = b .goal; at = b .at + b .count; count = 0 }
+  moved = record { answer = b .answer; names = b .names; goal = b .goal; at = b .at + b .count; count = 0 }
 
   moved-sums : Sums ks ws (g .text) (length (g .lent)) (g .room) moved
-  moved-sums = let s = g .batch .sums in record { refusal = s .refusal; first = s .first; second = s .second; goal = s .goal; names = s .names }
+  moved-sums = let s = g .batch .sums in record { answered = s .answered; goal = s .goal; names = s .names }
 
   -- after the last batch
   pub going-done : (r : Batch) (o : List ℕ) → r ≡ moved → b .at + b .count ≡ b .goal → o ≡ replicate (length work) 0 → Batched ks ws (g .text) (g .lent) (g .room) r o × (r .at ≡ b .at + b .count)

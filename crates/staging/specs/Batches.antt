@@ -6,9 +6,8 @@ use mathlib.Core.Bool.{true, false}
 use mathlib.Core.List.{List, []}
 use lib.ListN.{length, getD, take}
 use Rattle.lustre.specs.Names.{names-of}
-use Rattle.lustre.specs.Answer.{refusal-of, first-of, second-of, answer, writes, stored-report, work-after}
+use Rattle.lustre.specs.Answer.{answer, writes, stored-report, work-after}
 use Rattle.lustre.specs.declared.Line.{Line}
-use Rattle.lustre.specs.declared.Answer.{Answer}
 use Rattle.lines.specs.Lines.{line-in}
 use Rattle.staging.specs.declared.Batch.{Batch}
 
@@ -20,11 +19,9 @@ due kinds words text work room = elim (writes (answer kinds words text work room
 abbrev pub blank : Line
 blank = record { code = 0; place = 0; number = 0; equation = 0; step = 0; name = 0 }
 
--- The batch b says the call's answer as numbers and the number of lines due, and where some are, the number of names.
+-- The batch b has the call's answer and the number of lines due, and where some are, the number of names.
 pub record Sums (kinds words text : List ℕ) (work room : ℕ) (b : Batch) : Type 0 where
-  pub refusal : b .refusal ≡ refusal-of (answer kinds words text work room)
-  pub first : b .first ≡ first-of (answer kinds words text work room)
-  pub second : b .second ≡ second-of (answer kinds words text work room)
+  pub answered : b .answer ≡ answer kinds words text work room
   pub goal : b .goal ≡ length (due kinds words text work room)
   pub names : 0 < b .goal → b .names ≡ length (names-of text)
 
@@ -47,7 +44,3 @@ pub record Going (kinds words work : List ℕ) (b : Batch) : Type 0 where
   pub long : length work ≡ length lent
   pub batch : Batched kinds words text lent room b work
   pub more : b .at < b .goal
-
--- r is the answer that the batch b says as numbers
-abbrev pub Says : Batch → Answer → Type 0
-Says b r = (a : Answer) → b .refusal ≡ refusal-of a → b .first ≡ first-of a → b .second ≡ second-of a → r ≡ a

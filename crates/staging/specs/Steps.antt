@@ -5,7 +5,7 @@ use mathlib.Core.Path.{_≡_}
 use mathlib.Core.List.{List}
 use lib.ListN.{length, replicate}
 use Rattle.lustre.specs.Report.{report, followed}
-use Rattle.lustre.specs.Answer.{number-and-place}
+use Rattle.lustre.specs.declared.Answer.the-variants.{Report, Refused, MoreLines}
 use Rattle.lustre.specs.declared.Refusal.{Refusal}
 use Rattle.scope.specs.Model.{Model}
 use Rattle.scope.specs.Writes.{Reports}
@@ -13,19 +13,19 @@ use Rattle.staging.specs.declared.Batch.{Batch}
 
 -- refused input: no line is due
 abbrev pub refused-with : Refusal → Batch
-refused-with r = record { refusal = number-and-place r .0; first = number-and-place r .1; second = 0; names = 0; goal = 0; at = 0; count = 0 }
+refused-with r = record { answer = Refused r; names = 0; goal = 0; at = 0; count = 0 }
 
 -- n lines that fit
 abbrev pub fitting : ℕ → ℕ → ℕ → Batch
-fitting n looks names = record { refusal = 0; first = n; second = looks; names = names; goal = n; at = 0; count = 0 }
+fitting n looks names = record { answer = Report n looks; names = names; goal = n; at = 0; count = 0 }
 
 -- n lines, which do not fit the room
 abbrev pub overfull : ℕ → ℕ → ℕ → Batch
-overfull n names room = record { refusal = 7; first = n; second = 0; names = names; goal = room; at = 0; count = 0 }
+overfull n names room = record { answer = MoreLines n; names = names; goal = room; at = 0; count = 0 }
 
 -- the batch b with as many lines as are due and have places in so many words
 abbrev pub counted : Batch → ℕ → Batch
-counted b len = record { refusal = b .refusal; first = b .first; second = b .second; names = b .names; goal = b .goal; at = b .at; count = min (b .goal - b .at) (len / 6) }
+counted b len = record { answer = b .answer; names = b .names; goal = b .goal; at = b .at; count = min (b .goal - b .at) (len / 6) }
 
 -- The first batch b of a model: n lines are reported from the first on, into the work memory o as o′; b sums them, and counts those that
 -- stand in the work memory w, which is o′, or cleared where no line is due.

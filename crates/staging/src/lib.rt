@@ -1,30 +1,27 @@
 // Batches of the report in the work memory: document 01, 'What is lent'. `first_batch` answers the refusals of what is lent, or counts all
 // lines and writes the first of them, six words each, into the work memory; `next_batch` writes the next. When none is left to store the
 // work memory is cleared, all of it. So a report may have more lines than the work memory has places for: each batch takes one pass over the
-// project. Refused input changes nothing. A batch is plain numbers, so that whoever stores the lines has nothing to compute.
+// project. Refused input changes nothing. A batch holds the answer and plain numbers, so that whoever stores the lines has nothing to compute.
 use input::Input;
 use input::check_input;
 use lustre::Answer;
 use lustre::Refusal;
-use lustre::refusal_numbers;
 use project::clear;
 use project::report;
 ghost use mathlib.Core.Path.{_≡_};
 ghost use Prim.Native.Nat.{_+_, _^_, _<_, _≤_};
 ghost use Rattle.scope.specs.Model.{Model};
 ghost use Rattle.tables.specs.Entered.{Aliases-below};
-ghost use Rattle.staging.specs.Batches.{Batched, Going, Says};
+ghost use Rattle.staging.specs.Batches.{Batched, Going};
 ghost use Rattle.staging.specs.Steps.{refused-with, fitting, overfull, counted, Begun};
 
 // Words of the graph that a pass is lent: eight for each of 512 names. The work memory holds lines meanwhile, so the graph is a local.
 const GRAPH: usize = 4096;
 
-// What stands in the work memory: the answer as numbers (0 or the refusal's number; the lines and edges followed, or the place and 0),
-// the number of names, how many lines are to be stored in all, the number of the first line that stands there, and how many do.
+// What stands in the work memory: the answer of the call, the number of names, how many lines are to be stored in all, the number of the
+// first line that stands there, and how many do.
 pub struct Batch {
-    pub refusal: u64,
-    pub first: u64,
-    pub second: u64,
+    pub answer: Answer,
     pub names: u64,
     pub goal: usize,
     pub at: usize,
@@ -35,11 +32,8 @@ pub struct Batch {
 fn refuse(r: Refusal) -> Batch
     ensures { λ b. ⌜ b ≡ refused-with r ⌝ }
 {
-    let n = refusal_numbers(r);
     Batch {
-        refusal: n.refusal,
-        first: n.first,
-        second: 0,
+        answer: Answer::Refused(r),
         names: 0,
         goal: 0,
         at: 0,
@@ -53,9 +47,7 @@ fn sum(n: u64, looks: u64, names: u64, room: usize) -> Batch
 {
     if n <= room as u64 {
         return Batch {
-            refusal: 0,
-            first: n,
-            second: looks,
+            answer: Answer::Report(n, looks),
             names,
             goal: n as usize,
             at: 0,
@@ -63,9 +55,7 @@ fn sum(n: u64, looks: u64, names: u64, room: usize) -> Batch
         };
     }
     Batch {
-        refusal: 7,
-        first: n,
-        second: 0,
+        answer: Answer::MoreLines(n),
         names,
         goal: room,
         at: 0,
@@ -81,10 +71,9 @@ fn count(b: Batch, len: usize) -> Batch
     let left = b.goal - b.at;
     let places = len / 6;
     let n = if left < places { left } else { places };
+    let answer = b.answer;
     Batch {
-        refusal: b.refusal,
-        first: b.first,
-        second: b.second,
+        answer,
         names: b.names,
         goal: b.goal,
         at: b.at,
@@ -124,10 +113,9 @@ pub fn next_batch(kinds: &[u8], words: &[u64], work: &mut [u64], b: Batch) -> Ba
     ensures { λ r. ⌜ ((g : Going (now (kinds .entry)) (now (words .entry)) (now (work .entry)) b) → Batched (now (kinds .entry)) (now (words .entry)) (g .text) (g .lent) (g .room) r (now (work .exit)) × (r .at ≡ b .at + b .count)) ⌝ }
 {
     let at = b.at + b.count;
+    let answer = b.answer;
     let c = Batch {
-        refusal: b.refusal,
-        first: b.first,
-        second: b.second,
+        answer,
         names: b.names,
         goal: b.goal,
         at,
@@ -142,20 +130,9 @@ pub fn next_batch(kinds: &[u8], words: &[u64], work: &mut [u64], b: Batch) -> Ba
     count(c, work.len())
 }
 
-// The answer that a batch says as numbers.
+// The answer of a batch.
 pub fn answer_of(b: Batch) -> Answer
-    ensures { λ r. ⌜ Says b r ⌝ }
+    ensures { λ r. ⌜ r ≡ b .answer ⌝ }
 {
-    let refusal = b.refusal;
-    match refusal {
-        0 => Answer::Report(b.first, b.second),
-        1 => Answer::Refused(Refusal::Sizes),
-        2 => Answer::Refused(Refusal::ShortWork(b.first)),
-        3 => Answer::Refused(Refusal::BadName(b.first)),
-        4 => Answer::Refused(Refusal::BadKind(b.first)),
-        5 => Answer::Refused(Refusal::NoProject(b.first)),
-        6 => Answer::Refused(Refusal::TooDeep(b.first)),
-        7 => Answer::MoreLines(b.first),
-        _ => Answer::Refused(Refusal::BadWord(b.first)),
-    }
+    b.answer
 }

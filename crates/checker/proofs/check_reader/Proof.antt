@@ -2,7 +2,7 @@
 -- The work memory is lent as `&mut` to `first_batch` and `next_batch` and as `&` to `fill`, and the lines as `&mut` to `fill`; each comes back (stored's `Loan.antt`). What holds between two turns is `Turns.antt`'s `State`.
 -- All that the proof knows of the callees is that they meet their contracts.
 -- Assumes nothing.
-use mathlib.Core.Path.{_≡_, refl, sym, ap, subst}
+use mathlib.Core.Path.{_≡_, refl, sym, ap, subst, _∙_}
 use Prim.Native.Nat.{ℕ, _<_, _≤_, _^_, _*_, _+_, _-_}
 use native.Mathlib.Nat.{eq-or-lt-of-le, lt-irrefl}
 use native.Mathlib.Omega.{arith}
@@ -69,7 +69,7 @@ use Rattle.stored.proofs.fill.Symbol as fill-def
 use Rattle.stored.proofs.fill.Symbol.{name as #stored·fill}
 use Rattle.stored.proofs.fill.Met as fill-thm
 use Rattle.staging.specs.declared.Batch.{Batch}
-use Rattle.staging.specs.Batches.{due, Batched, Going, Says}
+use Rattle.staging.specs.Batches.{due, Batched, Going}
 use Rattle.staging.proofs.Batch as F
 use Rattle.staging.proofs.Batch.Laws as F′
 use Rattle.staging.proofs.first_batch as first-batch
@@ -282,8 +282,8 @@ module _ {M : Type 1} (𝓤 : URA M) (H : Heap 𝓤) (A : Atoms 𝓤) (W : Given
   asked-answer : (c : Batch) → Is F.the-row c (batch c ∷ []) → ent 𝓤 (emp 𝓤) (AnswerOf 𝓤 H A mem run .pre (to-answer c))
   asked-answer c is = qed W (‵ ftrue ∷ []) ∵ nothing ! $ owned ! F.the-row (Is F.the-row) (LL.makes F.the-type F′.the-plain 𝓤 H A) c _ is $ fjoin ! $ move ! (1 ∷ 0 ∷ []) $ join ! $ frame ! $ done !
 
-  said-answer : (c : Batch) (r : Answer) → ent 𝓤 (ensured 𝓤 H A answer-of.ended (answer-of.clauses 𝓤 H A mem run) tt (c, tt) tt r) (fact 𝓤 (Says c r))
-  said-answer c r = exE 𝓤 _ (λ us. snd∗ 𝓤 (sem 𝓤 H A (lasts answer-of.ended tt (c, tt) us)) (fact 𝓤 (Says c r)))
+  said-answer : (c : Batch) (r : Answer) → ent 𝓤 (ensured 𝓤 H A answer-of.ended (answer-of.clauses 𝓤 H A mem run) tt (c, tt) tt r) (fact 𝓤 (r ≡ c .answer))
+  said-answer c r = exE 𝓤 _ (λ us. snd∗ 𝓤 (sem 𝓤 H A (lasts answer-of.ended tt (c, tt) us)) (fact 𝓤 (r ≡ c .answer)))
 
   -- ---- the exit
   exits : (r : Answer) (u : Val) (zs : List ℕ) (ls : List Line) → length zs ≡ length ws → length ls ≡ length ys → Checked kinds words text ws ys r zs ls
@@ -358,10 +358,10 @@ module _ {M : Type 1} (𝓤 : URA M) (H : Heap 𝓤) (A : Atoms 𝓤) (W : Given
 
       -- ---- numbers and lists
       at-fits : (t : St) → t .b .at < 2 ^ 64
-      at-fits t = LL.owed F.the-type F′.the-laws (t .b) _ (t .is) .1 .1 .1 .1 .1 .0 .1
+      at-fits t = LL.owed F.the-type F′.the-laws (t .b) _ (t .is) .1 .1 .1 .0 .1
 
       count-fits : (t : St) → t .b .count < 2 ^ 64
-      count-fits t = LL.owed F.the-type F′.the-laws (t .b) _ (t .is) .1 .1 .1 .1 .1 .1 .0 .1
+      count-fits t = LL.owed F.the-type F′.the-laws (t .b) _ (t .is) .1 .1 .1 .1 .0 .1
 
       small-room : length ys < 2 ^ 63
       small-room = omega (arith, m₅ .1)
@@ -389,7 +389,7 @@ module _ {M : Type 1} (𝓤 : URA M) (H : Heap 𝓤) (A : Atoms 𝓤) (W : Given
       more : (t : St) → t .b .at < t .b .goal → Seq Go W (I t) (runs C Λ En body.turn-1 (anyQ (afterTurn 𝓤 H (Below 𝓤 H A ≺ I t) Left)))
       unfolding afterTurn
       more t small =
-          assigns ! (bin ! (load ! (from ! (fld ! refl (stop !))) (look-in ! 41 (sub ! 5 refl (whole !)))) (load ! (from ! (fld ! refl (stop !))) (look-in ! 41 (sub ! 4 refl (whole !)))) tt) (from ! (stop !)) (init ! 29 refl (tt, tt)) $
+          assigns ! (bin ! (load ! (from ! (fld ! refl (stop !))) (look-in ! 41 (sub ! 3 refl (whole !)))) (load ! (from ! (fld ! refl (stop !))) (look-in ! 41 (sub ! 2 refl (whole !)))) tt) (from ! (stop !)) (init ! 29 refl (tt, tt)) $
           rewrite ! 29 (λ (z : Bool). ‵ (fat fullShare tyBool l₁₁ 0 (vbool z))) (holds (ltb (t .b .at) (t .b .goal)) (lt→ltb (t .b .at) (t .b .goal) small)) refl $
           stays ! (load ! (from ! (stop !)) (look ! 29 refl)) $
           assigns ! (addr ! (from ! (fld ! refl (hop ! (look-in ! 43 (sub ! 0 refl (whole !))) (stop !))))) (from ! (stop !)) (init ! 25 refl (tt, tt)) $
@@ -404,7 +404,7 @@ module _ {M : Type 1} (𝓤 : URA M) (H : Heap 𝓤) (A : Atoms 𝓤) (W : Given
           move ! (2 ∷ 5 ∷ 0 ∷ 3 ∷ []) $ group ! 4 $ use1 W (raw (Fill 𝓤 H A mem run .pre (to-fill ν₁ δ₁ ν₂ δ₂ (t .ls) (t .zs) (t .b .at) (t .b .count)))) (asked-fill ν₁ δ₁ ν₂ δ₂ (t .ls) (t .zs) (t .b .at) (t .b .count) (at-fits t) (count-fits t) (in-room t, t .batched .fits)) $
           -- [what it asks; the lines' loan; the work memory's; the kinds' token; kinds; the words' token; words; the reader; text; its token; local k at 10 + 2 (20 - k)]
           calls-at ! fm (Fill 𝓤 H A mem run) known-fill (to-fill ν₁ δ₁ ν₂ δ₂ (t .ls) (t .zs) (t .b .at) (t .b .count))
-          (and-then ! (load ! (from ! (stop !)) (look ! 22 refl)) (and-then ! (load ! (from ! (fld ! refl (stop !))) (look-in ! 40 (sub ! 5 refl (whole !)))) (and-then ! (load ! (from ! (fld ! refl (stop !))) (look-in ! 40 (sub ! 6 refl (whole !)))) (and-then ! (load ! (from ! (stop !)) (look ! 18 refl)) (no-more !))))) (λ u′.
+          (and-then ! (load ! (from ! (stop !)) (look ! 22 refl)) (and-then ! (load ! (from ! (fld ! refl (stop !))) (look-in ! 40 (sub ! 3 refl (whole !)))) (and-then ! (load ! (from ! (fld ! refl (stop !))) (look-in ! 40 (sub ! 4 refl (whole !)))) (and-then ! (load ! (from ! (stop !)) (look ! 18 refl)) (no-more !))))) (λ u′.
           use1 W (later (some (λ (r₀ : Unit {0}). ((‵ (flft (ν₁ ∷ []) fullShare) ⊛ (‵ (flft (ν₂ ∷ []) fullShare) ⊛ ‵ ftrue)) ⊛ ‵ (unit .own r₀ (u′ ∷ []))) ⊛ raw (ensured 𝓤 H A fill.ended (fill.clauses 𝓤 H A mem run) (ν₁ ∷ [], (ν₂ ∷ [], tt)) (lines δ₁ (t .ls), (t .b .at, (t .b .count, (work δ₂ (t .zs), tt)))) tt r₀)))) (id⊢ 𝓤 _) $ await ! tt $ pick ! (λ r₀.
           split ! $ move ! (1 ∷ []) $ use1 W (some (λ (ls : List Line × (Unit {0} × (Unit {0} × (Unit {0} × Unit {0})))). ‵ (lasts fill.ended (ν₁ ∷ [], (ν₂ ∷ [], tt)) (lines δ₁ (t .ls), (t .b .at, (t .b .count, (work δ₂ (t .zs), tt)))) ls) ⊛ raw (fact 𝓤 (ls .0 ≡ laid (t .ls) (t .b .at) (t .zs) (t .b .count))))) (id⊢ 𝓤 _) $ pick ! (λ ls.
           split ! $ move ! (1 ∷ []) $ heard ! (ls .0 ≡ laid (t .ls) (t .b .at) (t .zs) (t .b .count)) (λ e′. fsplit ! $ fsplit ! $ move ! (1 ∷ []) $ feqL ! (λ l′.
@@ -445,13 +445,13 @@ module _ {M : Type 1} (𝓤 : URA M) (H : Heap 𝓤) (A : Atoms 𝓤) (W : Given
       ends : (X : SProp 𝓤) (t : St) → t .b .at ≡ t .b .goal → Seq Go W (I t) (runs C Λ En body.turn-1 (anyQ (afterTurn 𝓤 H X Left)))
       unfolding afterTurn
       ends X t same =
-          assigns ! (bin ! (load ! (from ! (fld ! refl (stop !))) (look-in ! 41 (sub ! 5 refl (whole !)))) (load ! (from ! (fld ! refl (stop !))) (look-in ! 41 (sub ! 4 refl (whole !)))) tt) (from ! (stop !)) (init ! 29 refl (tt, tt)) $
+          assigns ! (bin ! (load ! (from ! (fld ! refl (stop !))) (look-in ! 41 (sub ! 3 refl (whole !)))) (load ! (from ! (fld ! refl (stop !))) (look-in ! 41 (sub ! 2 refl (whole !)))) tt) (from ! (stop !)) (init ! 29 refl (tt, tt)) $
           rewrite ! 29 (λ (z : Bool). ‵ (fat fullShare tyBool l₁₁ 0 (vbool z))) (fails (ltb (t .b .at) (t .b .goal)) (λ h. lt-irrefl (t .b .goal) (subst (λ (m : ℕ). m < t .b .goal) same (ltb→lt (t .b .at) (t .b .goal) h)))) refl $
           leaves-loop ! (load ! (from ! (stop !)) (look ! 29 refl)) $ exec ! C Λ En body.t-8 (atRet En Post) $
           use0 W (raw (AnswerOf 𝓤 H A mem run .pre (to-answer (t .b)))) (asked-answer (t .b) (t .is)) $
           calls-at ! fm (AnswerOf 𝓤 H A mem run) known-answer (to-answer (t .b)) (and-then ! (load ! (from ! (stop !)) (look ! 42 refl)) (no-more !)) (λ u.
           use1 W (later (some (λ (r : Answer). (‵ ftrue ⊛ ‵ (S.the-row .own r (u ∷ []))) ⊛ raw (ensured 𝓤 H A answer-of.ended (answer-of.clauses 𝓤 H A mem run) tt (t .b, tt) tt r)))) (id⊢ 𝓤 _) $ await ! tt $ pick ! (λ r.
-          split ! $ move ! (1 ∷ []) $ use1 W (raw (fact 𝓤 (Says (t .b) r))) (said-answer (t .b) r) $ heard ! (Says (t .b) r) (λ e. split ! $ drop ! $
+          split ! $ move ! (1 ∷ []) $ use1 W (raw (fact 𝓤 (r ≡ t .b .answer))) (said-answer (t .b) r) $ heard ! (r ≡ t .b .answer) (λ e. split ! $ drop ! $
           peeks ! S.the-row (Is S.the-row) (shows 𝓤 H A S.the-row) r (u ∷ []) (λ is.
           land ! (from ! (stop !)) (init ! 52 refl (EL.lawful S.the-type S′.the-laws 𝓤 H A W tt .typed r _ is .0)) $
           returns ! (look ! 52 refl) $ forget ! 30 refl $ forget ! 42 refl $ forget ! 44 refl $ forget ! 46 refl $ forget ! 48 refl $ forget ! 50 refl $ forget ! 52 refl $
@@ -460,7 +460,7 @@ module _ {M : Type 1} (𝓤 : URA M) (H : Heap 𝓤) (A : Atoms 𝓤) (W : Given
           move ! (24 ∷ 25 ∷ []) $ free1 ! $ move ! (22 ∷ 23 ∷ []) $ free1 ! $ move ! (20 ∷ 21 ∷ []) $ free1 ! $ move ! (18 ∷ 19 ∷ []) $ free1 ! $ move ! (16 ∷ 17 ∷ []) $ free1 ! $ move ! (14 ∷ 15 ∷ []) $ free1 ! $ move ! (12 ∷ 13 ∷ []) $ free1 ! $ free0 ! $
           move ! (5 ∷ 7 ∷ []) $ use2 W (‵ (flft κ q)) (W .lfts .lft-join κ q) $
           keep ! (0 ∷ 10 ∷ 4 ∷ 5 ∷ 8 ∷ 9 ∷ 2 ∷ 3 ∷ 1 ∷ []) $
-          by ! (exits r u (t .zs) (t .ls) (t .zs-length) (ls-length t) (record { answered = e (answer kinds words text (length ws) (length ys)) (t .batched .sums .refusal) (t .batched .sums .first) (t .batched .sums .second); lines = ended t same; worked = t .batched .done same }))
+          by ! (exits r u (t .zs) (t .ls) (t .zs-length) (ls-length t) (record { answered = e ∙ t .batched .sums .answered; lines = ended t same; worked = t .batched .done same }))
           ))))
 
       reached : (t : St) → t .b .at ≤ t .b .goal
