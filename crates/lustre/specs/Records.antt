@@ -42,7 +42,7 @@ in-class names (some a-truth) w = ltb w 2
 in-class names (some any-word) w = true
 in-class names (some a-byte) w = ltb w 256
 
--- whether a kind is known
+-- whether a kind is known, by the class of its words
 unfoldable pub is-known : Option WordClass → Bool
 is-known none = false
 is-known (some c) = true

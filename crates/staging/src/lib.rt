@@ -1,7 +1,8 @@
 // Batches of the report in the work memory: document 01, 'What is lent'. `first_batch` answers the refusals of what is lent, or counts all
 // lines and writes the first of them, six words each, into the work memory; `next_batch` writes the next. When none is left to store the
 // work memory is cleared, all of it. So a report may have more lines than the work memory has places for: each batch takes one pass over the
-// project. Refused input changes nothing. A batch holds the answer and plain numbers, so that whoever stores the lines has nothing to compute.
+// project. Refused input changes nothing. A batch holds the answer and plain numbers, so that whoever stores the lines has nothing to
+// compute.
 use input::Input;
 use input::check_input;
 use lustre::Answer;
