@@ -88,6 +88,9 @@ int main(int count, char **arguments) {
         return 3;
     }
     fclose(in);
+    if (length == 0) {
+        return report(0, 0); /* an empty file is a blank model */
+    }
     uint64_t records = length < 8 ? WUROIKE_RECORDS + 1 : number(file, 4);
     uint64_t text_length = length < 8 ? 0 : number(file + 4, 4);
     if (records > WUROIKE_RECORDS || text_length > WUROIKE_TEXT || length != 8 + 9 * records + text_length) {

@@ -62,14 +62,15 @@ enum wuroike_answer {
     WUROIKE_BAD_NAME = 3,   /* a name is not 1 to 64 bytes closed by a zero byte, is not above the one before it in byte order, is a
                                reserved one, or is the 513th. first: its number */
     WUROIKE_BAD_KIND = 4,   /* the first bad record has an unknown kind. first: the record */
-    WUROIKE_NO_PROJECT = 5, /* the records are not one project. first: the first that can't stand there, or their number */
+    WUROIKE_NO_PROJECT = 5, /* the records are not one project, or there are none and there are names. first: the first that can't stand
+                               there, or their number */
     WUROIKE_TOO_DEEP = 6,   /* a type of more than 68 levels or an expression of more than 60. first: the first record too deep */
     WUROIKE_MORE_LINES = 7, /* the report has more lines than were lent. first: how many it has, at most 2^64 - 1 */
     WUROIKE_BAD_WORD = 8    /* the first bad record has a known kind and a word outside its range, such as a name number that is too
                                large. first: the record */
 };
 
-/* Checks a project.
+/* Checks a project. No records and no text are a project without packages: a report of no lines and no edges.
  *
  *   kinds, words   the records: their kinds, and a word each. Read.
  *   text           the names in byte order, each closed by a zero byte; a name's number is its place. Read.

@@ -14,7 +14,7 @@ WORK, ROOM = 4096, 1024
 
 
 def inputs():
-    """The program tests/inputs/make, whose decoder was written from document 01 and request 2.2 alone."""
+    """The program tests/inputs/make, whose decoder was written from document 01 and requests 2.1 and 2.2 alone."""
     path = os.path.join(HERE, "..", "inputs", "make")
     loader = importlib.machinery.SourceFileLoader("inputs_make", path)
     module = importlib.util.module_from_spec(importlib.util.spec_from_loader("inputs_make", loader))
@@ -40,7 +40,9 @@ def write(records, unused=()):
 
 
 def parts(file):
-    """Kinds, words and text of a file, or none if its length is wrong or too large."""
+    """Kinds, words and text of a file, or none if its length is wrong or too large; a file without bytes has nothing of each."""
+    if not file:
+        return b"", (), b""
     if len(file) < 8:
         return None
     n, t = struct.unpack_from("<II", file)
@@ -57,7 +59,7 @@ def spell(file):
 
 
 def decoded(file, work):
-    """What the decoder says: a refusal from 1 to 6 or 8, or `accepted` and the number of names."""
+    """What the decoder says: a refusal from 1 to 6 or 8, `blank`, or `accepted` and the number of names."""
     told = parts(file)
     return DECODER.judge(*told, work) if told else "refused 1 at 0"
 

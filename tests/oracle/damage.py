@@ -1,4 +1,4 @@
-"""Damaged files: one to three changes of a good file, and work memory and room that may be too small."""
+"""Damaged files: one to three changes of a good file, blank ones among them, and work memory and room that may be too small."""
 from batch import NAMED, pack, parts
 
 EDGES = [0, 1, 2, 3, 4, 255, 256, 511, 512, 4095, 4096, 4097, (1 << 32) - 1, 1 << 32, (1 << 63) - 1, 1 << 63, (1 << 64) - 1]
@@ -57,6 +57,13 @@ def many_names(rng, kinds, words, text):
     text += b"".join(b"\xf0%03d\0" % i for i in range(rng.choice((500, 505, 510, 512)) - text.count(0) + rng.randrange(4)))
 
 
+def emptied(rng, kinds, words, text):
+    """No records, and no text or what there was of it."""
+    del kinds[:], words[:]
+    if rng.random() < 0.7:
+        del text[:]
+
+
 CHANGES = [one_kind, one_word, one_name, one_name, cut, swap, deepen, one_letter]
 
 
@@ -65,13 +72,17 @@ def damaged(rng, file):
     kinds, words, text = parts(file)
     kinds, words, text = list(kinds), list(words), bytearray(text)
     for _ in range(rng.randrange(1, 4)):
-        change = many_names if rng.random() < 0.01 else rng.choice(CHANGES)
+        change = rng.choice((many_names, emptied)) if rng.random() < 0.02 else rng.choice(CHANGES)
         if kinds:
             change(rng, kinds, words, text)
     text = bytes(text)
     if b"\n" in text:
         return None
     made = pack(kinds, words, text)
+    work = rng.choice((0, 1, 4095)) if rng.random() < 0.03 else rng.choice((4096, 4096, 4097, 5000))
+    room = rng.choice((0, 1, 2, 3, 10, 1024, 1024, 1024, 1024))
+    if not kinds and not text and rng.random() < 0.5:
+        return work, room, b""
     if rng.random() < 0.05:
         made = bytearray(made)
         made[rng.randrange(8)] = rng.randrange(256)
@@ -81,5 +92,4 @@ def damaged(rng, file):
     told = parts(made)
     if told and b"\n" in told[2]:
         return None
-    work = rng.choice((0, 1, 4095)) if rng.random() < 0.03 else rng.choice((4096, 4096, 4097, 5000))
-    return work, rng.choice((0, 1, 2, 3, 10, 1024, 1024, 1024, 1024)), made
+    return work, room, made

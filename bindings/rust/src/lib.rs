@@ -102,7 +102,7 @@ pub enum Refusal {
     BadKind(u64),
     /// 8: this record, the first bad one, has a known kind and a word outside its range, such as a name number that is too large.
     BadWord(u64),
-    /// 5: the records are not one project; this is the first that can't stand there.
+    /// 5: the records are not one project, or there are none and there are names; this is the first that can't stand there.
     NoProject(u64),
     /// 6: a type of more than 68 levels or an expression of more than 60; this is the first record too deep.
     TooDeep(u64),
@@ -206,8 +206,8 @@ fn answer(refusal: u64, first: u64, second: u64) -> Result<Counts, Refusal> {
     }
 }
 
-/// The check of a project whose records are `kinds` and `words`, with its names in `text`. After a report the first of `lines` are
-/// written, after [`Refusal::MoreLines`] as many as there are, and all of `work` is zero after either; after any other refusal nothing is
+/// The check of a project whose records are `kinds` and `words`, with its names in `text`; no records and no text are a project without
+/// packages. After a report the first of `lines` are written, after [`Refusal::MoreLines`] as many as there are, and all of `work` is zero after either; after any other refusal nothing is
 /// changed.
 pub fn check(kinds: &[u8], words: &[u64], text: &[u8], work: &mut [u64], lines: &mut [Line]) -> Result<Counts, Refusal> {
     let (mut first, mut second) = (0, 0);

@@ -30,8 +30,11 @@ impl Model {
     }
 
     /// The model in a file: the number of records and the length of the text, 4 bytes each, the kinds, the words, 8 bytes each, the text.
-    /// The low byte is first.
+    /// The low byte is first. A file without bytes is a blank model, which has no records and no text.
     pub fn from_file(file: &[u8]) -> Result<Model, WrongFile> {
+        if file.is_empty() {
+            return Ok(Model::new(vec![], vec![], vec![]));
+        }
         let size = |at: usize| {
             let bytes = file.get(at..at + 4).ok_or(WrongFile)?;
             Ok(u32::from_le_bytes(bytes.try_into().unwrap()) as usize)

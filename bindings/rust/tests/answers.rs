@@ -62,10 +62,17 @@ fn too_deep() {
 }
 
 #[test]
-fn nothing_lent() {
+fn a_blank_model() {
+    let kept = |told: Refusal| (Err(told), false, 0);
+    for (work, room) in [(WORK, 0), (WORK, 3), (WORK + 5, 9)] {
+        assert_eq!(ask(&[], &[], &[], work, room), (Ok(Counts { lines: 0, followed: 0 }), true, 0));
+    }
+    assert_eq!(ask(&[], &[], TEXT, WORK, 3), kept(Refusal::NoProject(0)));
+    assert_eq!(ask(&[], &[], b"b\0a\0", WORK, 3), kept(Refusal::BadName(1)));
+    assert_eq!(ask(&[], &[0], &[], WORK, 3), kept(Refusal::Sizes));
+    assert_eq!(ask(&[], &[], &[], WORK - 1, 3), kept(Refusal::ShortWork(4095)));
     for call in [check, check_project] {
         assert_eq!(call(&[], &[], &[], &mut [], &mut []), Err(Refusal::ShortWork(0)));
-        assert_eq!(call(&[], &[], &[], &mut [0; WORK], &mut []), Err(Refusal::NoProject(0)));
     }
 }
 
@@ -87,7 +94,11 @@ fn more_lines_than_a_batch() {
 
 #[test]
 fn files() {
-    assert_eq!(Model::from_file(&[]), Err(WrongFile));
+    assert_eq!(Model::from_file(&[]), Ok(Model::new(vec![], vec![], vec![])));
+    assert_eq!(Model::from_file(&[0; 8]), Model::from_file(&[]));
+    for length in [1, 7, 9] {
+        assert_eq!(Model::from_file(&vec![0; length]), Err(WrongFile));
+    }
     assert_eq!(Model::from_file(&[1, 0, 0, 0, 0, 0, 0, 0]), Err(WrongFile));
     assert_eq!(Model::from_file(&[255; 8]), Err(WrongFile));
     let file = [1, 0, 0, 0, 2, 0, 0, 0, 1, 2, 0, 0, 0, 0, 0, 0, 1, b'a', 0];

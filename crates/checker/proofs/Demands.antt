@@ -6,25 +6,23 @@ use native.Mathlib.Omega.{arith}
 use mathlib.Core.Path.{_≡_, refl, sym, ap, subst, _∙_}
 use mathlib.Core.List.{List, map, List·Memᴰ}
 use lib.ListN.{length, take, replicate, length-replicate}
-use Rattle.lustre.specs.Names.{names-of, name-at}
+use lib.Seq.{take-nil}
+use Rattle.lustre.specs.Names.{names-of}
 use Rattle.lustre.specs.Report.{report}
-use Rattle.lustre.specs.Answer.{answer, spelled, project-of, work-after}
+use Rattle.lustre.specs.Answer.{answer, writes, over, lines-after, work-after}
+use Rattle.lustre.proofs.Blank.{blank-stored, without-text}
 use Rattle.lustre.specs.declared.Line.{Line}
+use Rattle.lustre.specs.declared.Answer.the-variants.{Report}
 use Rattle.demands.specs.Demand3 as Given
 use Rattle.demands.specs.Demand3.{Said, said, about}
-use Rattle.demands.proofs.Known.{Known-records}
-use Rattle.demands.proofs.Naming.{accepted-names}
-use Rattle.demands.proofs.Reading.{spelled-tidy, whole-project}
-use Rattle.demands.proofs.RecordNames.{Among, project-known, spelled-known}
-use Rattle.demands.proofs.ReportNames.{report-known}
-use Rattle.demands.proofs.Calls.{passed, reported-lines, spoken, said-lines}
+use Rattle.demands.proofs.Calls.{spoken}
 use Rattle.demands.proofs.Demand3 as Proved
 use Rattle.lines.specs.Lines.{room}
 use Rattle.project.specs.Call.{buffer-after}
 use Rattle.project.specs.Demands as Words
 use Rattle.project.specs.Demands.{loop-lines}
 use Rattle.project.proofs.Demands as Words-proved
-use Rattle.checker.specs.Demands.{Check, Reported, records, project, lines-of, Reports, Demand-3, Unused-names, No-stray, Demand-2-loops}
+use Rattle.checker.specs.Demands.{Check, Reported, project, lines-of, Reports, Demand-3, Unused-names, No-records, No-stray, Demand-2-loops}
 
 -- ---- the call as the definition has it
 
@@ -41,14 +39,7 @@ same-lines c r = ap (λ (ls : List Line). map (said (names-of (c .text))) (take 
 
 -- they are the lines of the report, with names as texts
 lines-spoken : (c : Check) (r : Reported c) → lines-of c r ≡ map spoken (report (project c))
-unfolding spelled project-of
-lines-spoken c r =
-    let h = passed (call c) (given c r) in
-    let names = names-of (c .text) in
-    let tree = whole-project (records c) (spelled-tidy (name-at names) (c .kinds) (c .words)) (h .tree) in
-    let known = spelled-known names (c .kinds) (c .words) 0 (h .ranged) in
-    same-lines c r ∙ reported-lines (call c) (given c r)
-    ∙ said-lines names (accepted-names (c .text) (h .named)) (report (project c)) (report-known (Among names) (project c) (project-known (Among names) (project c) (subst (Known-records (Among names)) (tree .1) known)))
+lines-spoken c r = same-lines c r ∙ Proved.lines-spoken (call c) (given c r)
 
 -- demand 3, by that of the definition
 pub demand-3 : Demand-3
@@ -93,13 +84,28 @@ as-words c r = lines-spoken c r ∙ sym (Words-proved.lines-spoken (on-words c) 
 
 -- every report is about a project
 pub reports : Reports
-reports c r = let h = Words-proved.report-of (on-words c) (reported c r) in record { written = h .written; node = h .node; edges = h .edges }
+reports c r = let h = Words-proved.report-of (on-words c) (reported c r) in record { blank = h .blank; written = h .written; node = h .node; edges = h .edges }
 
 -- two editions that differ only in unused names
 pub unused-names : Unused-names
 unused-names c d r s e =
     let h = Words-proved.unused-names (on-words c) (on-words d) (reported c r) (reported d s) e in
     (as-words c r ∙ h .0 ∙ sym (as-words d s), h .1)
+
+-- a call without records
+pub no-records : No-records
+unfolding lines-after over writes
+no-records c k v short enough =
+    let h = Words-proved.no-records (on-words c) k v short enough in
+    record {
+      blank = λ t.
+          let w = h .blank t in
+          let is : answer (c .kinds) (c .words) (c .text) (length (c .work)) (length (c .lines)) ≡ Report 0 0 = sym (c .checked .answered) ∙ w .0 in
+          let stored = blank-stored (c .kinds) (c .words) (c .text) (without-text (c .kinds) (c .words) (c .text) (length (c .work)) (length (c .lines)) k v short enough t) in
+          (w .0, c .checked .lines ∙ rw (is, lines-after, stored, take-nil {A = Line} (length (c .lines))), w .2);
+      names = h .names;
+      no-names = h .no-names;
+    }
 
 -- demand 2 on E0060
 pub demand-2-loops : Demand-2-loops

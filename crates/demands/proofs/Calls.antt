@@ -22,7 +22,7 @@ use Rattle.lustre.specs.declared.Answer.the-variants.{Report, MoreLines}
 use Rattle.lustre.proofs.Lowest.{reports, passes}
 use Rattle.demands.specs.Reading.{Each}
 use Rattle.demands.specs.Naming.{Named}
-use Rattle.demands.specs.Demand3.{Call, Reported, records, Mention, no-name, the-name, mention, Said, said, lines-of}
+use Rattle.demands.specs.Demand3.{Call, Reported, project-records, Mention, no-name, the-name, mention, Said, said, lines-of}
 use Rattle.demands.proofs.Known.{Known-name}
 
 -- a report's lines fit the room
@@ -43,7 +43,7 @@ project c = project-of (c .kinds) (c .words) (c .text)
 pub record Passed (c : Call) (count : ℕ) : Type 0 where
   pub named : bad-name (c .text) ≡ none
   pub ranged : bad-record (length (names-of (c .text))) 0 (c .kinds) (c .words) ≡ none
-  pub tree : no-project (records c) ≡ none
+  pub tree : no-project (project-records c) ≡ none
   pub fits : length (report (project c)) ≤ length (c .lines)
   pub counted : length (report (project c)) ≡ count
 

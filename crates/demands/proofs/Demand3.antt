@@ -3,22 +3,24 @@
 use Prim.Native.Nat.{ℕ, zero, suc}
 use native.Mathlib.Omega.{arith}
 use mathlib.Core.Path.{_≡_, refl, sym, _∙_, ap}
-use mathlib.Core.Bool.{true, _&&_, not}
+use mathlib.Core.Bool.{Bool, true, false, _&&_, not}
 use mathlib.Core.List.{List, [], _∷_, map, Memᴰ·of-map}
 use mathlib.Core.Option.{Option, none, some}
 use lib.Dec.{eqb}
 use lib.ListN.{getElem?}
-use Rattle.lustre.specs.Name.{Name, _among_}
+use Rattle.lustre.specs.Name.{Name, mem, _among_}
 use Rattle.lustre.specs.Names.{names-of, name-at}
+use Rattle.lustre.specs.Records.{word-classes, class-in, word-class, spell-as}
 use Rattle.lustre.specs.Project.{Node, Project, skeleton, all-nodes}
-use Rattle.lustre.specs.Grammar.{one, a-project, a-node, flat-project}
+use Rattle.lustre.specs.Grammar.{one, a-project, a-node, each-of, flat-node, flat-project}
 use Rattle.lustre.specs.Line.{Line, Place, at-package, at-enum, at-type, at-constant, at-node}
 use Rattle.lustre.specs.Report.{report}
-use Rattle.lustre.specs.Answer.{place-number, project-of, spelled}
+use Rattle.lustre.specs.Answer.{place-number, is-blank, spelled, project-of}
+use Rattle.lustre.proofs.Blank.{read-as-lent, of-both, blank-project}
 use Rattle.demands.specs.Parts.{node-part}
 use Rattle.demands.specs.Nodes.{is-node, about-node, about-none}
 use Rattle.demands.specs.Reading.{Each, Writable, Writable-node, Writable-package, Tidy, part-of}
-use Rattle.demands.specs.Demand3.{Call, Reported, records, Said, stray, lines-of, about, about-no-node, Demand-3, No-stray}
+use Rattle.demands.specs.Demand3.{Call, Reported, project-records, Said, stray, lines-of, about, about-no-node, Demand-3, No-stray}
 use Rattle.demands.proofs.Keeps.{keep-map}
 use Rattle.demands.proofs.Known.{Known-records}
 use Rattle.demands.proofs.Eaches.{If-some, each-append}
@@ -63,9 +65,9 @@ unfolding all-nodes
 writable-nodes [] h = tt
 writable-nodes (p ∷ ps) h = each-append Writable-node (p .nodes) (all-nodes ps) (h .0 .2) (writable-nodes ps (h .1))
 
-tidy : (c : Call) → Tidy (records c)
-unfolding spelled
-tidy c = spelled-tidy (name-at (names-of (c .text))) (c .kinds) (c .words)
+tidy : (c : Call) → Tidy (project-records c)
+unfolding spelled spell-as word-class class-in word-classes mem each-of
+tidy c = of-both (c .kinds) (c .words) (c .text) Tidy (refl, tt) (spelled-tidy (name-at (names-of (c .text))) (c .kinds) (c .words))
 
 -- nodes of equal records are equal
 same-node : (m n : Option Node) → If-some Writable-node m → If-some Writable-node n → part-of m ≡ part-of n → m ≡ n
@@ -75,17 +77,23 @@ same-node (some m) none v w e = cc
 same-node (some m) (some n) v w e = ap some (same-parts (one a-node) m n [] [] v w e .0)
 
 module _ (c : Call) (r : Reported c) where
-  -- the records are the flattening of the project, and their names are among the names lent
-  whole : Writable (one a-project) (project c) × (records c ≡ flat-project (project c) [])
+  -- the records that the project is read from are its flattening, and their names are among the names lent
+  whole : Writable (one a-project) (project c) × (project-records c ≡ flat-project (project c) [])
   unfolding project-of
-  whole = whole-project (records c) (tidy c) (passed c r .tree)
+  whole = whole-project (project-records c) (tidy c) (passed c r .tree)
 
-  known : Known-records (λ x. (x among names-of (c .text)) ≡ true) (records c)
-  unfolding spelled
-  known = spelled-known (names-of (c .text)) (c .kinds) (c .words) 0 (passed c r .ranged)
+  known : Known-records (λ x. (x among names-of (c .text)) ≡ true) (project-records c)
+  unfolding spelled word-class class-in word-classes mem each-of
+  known =
+      of-both (c .kinds) (c .words) (c .text) (Known-records (λ x. (x among names-of (c .text)) ≡ true)) (tt, tt)
+      (spelled-known (names-of (c .text)) (c .kinds) (c .words) 0 (passed c r .ranged))
+
+  -- the records lent are the flattening too, unless there are none
+  pub written : is-blank (c .kinds) (c .text) ≡ false → spelled (c .kinds) (c .words) (c .text) ≡ flat-project (project c) []
+  written b = sym (read-as-lent (c .kinds) (c .words) (c .text) b) ∙ whole .1
 
   -- the lines are the report's, with names as texts
-  lines-spoken : lines-of c r ≡ map spoken (report (project c))
+  pub lines-spoken : lines-of c r ≡ map spoken (report (project c))
   lines-spoken =
       let names = names-of (c .text) in
       let K : Name → Type 0 = λ x. (x among names) ≡ true in
@@ -103,9 +111,20 @@ module _ (c : Call) (r : Reported c) where
     node-told = rw (lines-spoken, about-spoken i (report (project c)), judged-alone .node-is (project c) i)
 
     -- node i's records are the records of the tree's node i
-    part-is : node-part i (records c) ≡ part-of node
+    part-is : node-part i (project-records c) ≡ part-of node
     unfolding project-of
-    part-is = node-parts (records c) (tidy c) (passed c r .tree) i
+    part-is = node-parts (project-records c) (tidy c) (passed c r .tree) i
+
+    -- and so are those among the records lent
+    pub lent-part : (n : Node) → node ≡ some n → node-part i (spelled (c .kinds) (c .words) (c .text)) ≡ flat-node n []
+    unfolding all-nodes
+    lent-part n e = go (is-blank (c .kinds) (c .text)) refl
+      where
+        go : (t : Bool) → is-blank (c .kinds) (c .text) ≡ t → node-part i (spelled (c .kinds) (c .words) (c .text)) ≡ flat-node n []
+        go true b =
+            let z : _≡_ {A = Option Node} none (some n) = sym (ap (λ (P : Project). getElem? (all-nodes P) i) (blank-project (c .kinds) (c .words) (c .text) b)) ∙ e in
+            absurd (let w : _≡_ {A = ℕ} 0 1 = cc in omega arith)
+        go false b = ap (node-part i) (sym (read-as-lent (c .kinds) (c .words) (c .text) b)) ∙ part-is ∙ ap part-of e
 
     writable : If-some Writable-node node
     writable = writable-at (all-nodes (project c)) i (writable-nodes (project c) (whole .0))
@@ -113,7 +132,7 @@ module _ (c : Call) (r : Reported c) where
 pub demand-3 : Demand-3
 unfolding project-of
 demand-3 c d r s e =
-    let same : skeleton (project c) ≡ skeleton (project d) = same-skeleton (records c) (records d) (tidy c) (tidy d) (passed c r .tree) (passed d s .tree) e in (
+    let same : skeleton (project c) ≡ skeleton (project d) = same-skeleton (project-records c) (project-records d) (tidy c) (tidy d) (passed c r .tree) (passed d s .tree) e in (
       rw (none-told c r, none-told d s, same),
       λ i part.
           let equal = same-node (node c r i) (node d s i) (writable c r i) (writable d s i) (sym (part-is c r i) ∙ part ∙ part-is d s i) in

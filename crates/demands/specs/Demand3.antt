@@ -9,7 +9,8 @@ use lib.ListN.{length, take}
 use Rattle.lustre.specs.Name.{Name}
 use Rattle.lustre.specs.Names.{names-of, name-at}
 use Rattle.lustre.specs.Records.{Rec}
-use Rattle.lustre.specs.Answer.{answer, spelled, lines-after, no-value}
+use Rattle.lustre.specs.Answer as Answer
+use Rattle.lustre.specs.Answer.{answer, lines-after, no-value}
 use Rattle.lustre.specs.declared.Line.{Line}
 use Rattle.lustre.specs.declared.Answer.the-variants.{Report}
 use Rattle.demands.specs.Parts.{all, shown, node-part}
@@ -29,9 +30,9 @@ pub record Reported (c : Call) : Type 0 where
   pub edges : ℕ
   pub is : answer (c .kinds) (c .words) (c .text) (length (c .work)) (length (c .lines)) ≡ Report count edges
 
--- its records, where a name word counts as its name's text
-abbrev pub records : Call → List Rec
-records c = spelled (c .kinds) (c .words) (c .text)
+-- the records that its project is read from, where a name word counts as its name's text
+abbrev pub project-records : Call → List Rec
+project-records c = Answer.project-records (c .kinds) (c .words) (c .text)
 
 -- a name field: none, a name's text, or a number that is no name's
 pub data Mention : Type 0 where
@@ -69,9 +70,9 @@ about-no-node = keep (λ l. not (eqb (l .place) 4))
 -- and each node that is equal throughout has the same lines in both
 abbrev pub Demand-3 : Type 0
 Demand-3 = (c d : Call) (r : Reported c) (s : Reported d)
-    → shown all (records c) ≡ shown all (records d)
+    → shown all (project-records c) ≡ shown all (project-records d)
     → (about-no-node (lines-of c r) ≡ about-no-node (lines-of d s))
-    × ((i : ℕ) → node-part i (records c) ≡ node-part i (records d) → about i (lines-of c r) ≡ about i (lines-of d s))
+    × ((i : ℕ) → node-part i (project-records c) ≡ node-part i (project-records d) → about i (lines-of c r) ≡ about i (lines-of d s))
 
 -- no line has a number that is no name's
 abbrev pub No-stray : Type 0

@@ -11,24 +11,11 @@ use borrow.Author.Tests.{leb-false}
 use lib.Dec.{leb}
 use lib.ListN.{length, take, drop}
 use lib.Seq.{take-at}
-use Rattle.format.specs.File.{Model, records-in, text-in, right, parts, parse, kinds-of, text-of, decoded, words-after, Decoded}
+use Rattle.format.specs.File.{Model, parts, parse, kinds-of, text-of, decoded, words-after, Decoded}
 use Rattle.format.specs.declared.File.{File}
 use Rattle.format.specs.declared.File.the-variants.{Wrong, Parts}
-use Rattle.format.proofs.Files.{Fits, right-fits, fine, unparsed, kinds-length, words-known}
+use Rattle.format.proofs.Files.{Either, nothing, model, either, kinds-length, words-known}
 use Rattle.format.proofs.Written.{model-as}
-
--- a file that holds nothing, or its parts
-data Either (file : List ℕ) : Type 0 where
-  nothing : parse file ≡ none → Either file
-  model : (n t : ℕ) → Fits file n t → parse file ≡ some (parts file n t) → Either file
-
--- each file is one of the two
-either : (file : List ℕ) → Either file
-either file = go (right file (records-in file) (text-in file)) refl
-  where
-    go : (b : Bool) → right file (records-in file) (text-in file) ≡ b → Either file
-    go true r = let f = right-fits file (records-in file) (text-in file) r in model (records-in file) (text-in file) f (fine file (records-in file) (text-in file) refl refl f)
-    go false r = nothing (unparsed file r)
 
 -- with so many words lent, wrong means that there is more of them
 wrong-room : (m : Model) (room : ℕ) (r : File) → r ≡ decoded (some m) room → r ≡ Wrong → leb (length (m .words)) room ≡ false
@@ -48,9 +35,9 @@ decoded-wrong file room r h e w = go (either file)
   where
     go : Either file → parse file ≡ none
     go (nothing n) = n
-    go (model n t f p) =
-        let l = leb-false (length (parts file n t .words)) room (wrong-room (parts file n t) room r (e ∙ ap (λ (o : Option Model). decoded o room) p) w) in
-        absurd (omega (arith, words-known file n t, f .few))
+    go (model n t k) =
+        let l = leb-false (length (parts file n t .words)) room (wrong-room (parts file n t) room r (e ∙ ap (λ (o : Option Model). decoded o room) (k .parsed)) w) in
+        absurd (omega (arith, words-known file n t, k .few))
 
 -- what was decoded, of a file whose words are as many as its kinds
 stored-words : (m : Model) (lent words : List ℕ) (n t : ℕ) (r : File) → length (m .words) ≡ length (m .kinds) → r ≡ decoded (some m) (length lent) → words ≡ words-after (some m) lent → r ≡ Parts n t → take n words ≡ m .words
@@ -80,7 +67,8 @@ decoded-parts file lent words n t r d w = go (either file)
   where
     go : Either file → parse file ≡ some (record { kinds = kinds-of (parse file); words = take n words; text = text-of (parse file) })
     go (nothing e) = absurd (not-parts n t (length lent) (sym w ∙ d .answer ∙ ap (λ (o : Option Model). decoded o (length lent)) e))
-    go (model a b f p) =
+    go (model a b k) =
+        let p = k .parsed in
         p ∙ sym (ap some (model-as (parts file a b) _ _ _ (ap kinds-of p)
-        (stored-words (parts file a b) lent words n t r (words-known file a b ∙ sym (kinds-length f)) (d .answer ∙ ap (λ (o : Option Model). decoded o (length lent)) p) (d .stored ∙ ap (λ (o : Option Model). words-after o lent) p) w)
+        (stored-words (parts file a b) lent words n t r (words-known file a b ∙ sym (kinds-length k)) (d .answer ∙ ap (λ (o : Option Model). decoded o (length lent)) p) (d .stored ∙ ap (λ (o : Option Model). words-after o lent) p) w)
         (ap text-of p)))

@@ -24,14 +24,18 @@ example = record {
 abbrev pub refused : List ℕ
 refused = bytes "refused 1 at 0\n"
 
+-- the report on a blank file
+abbrev pub blank : List ℕ
+blank = bytes "lines 0 followed 0\n"
+
 -- a line from its six words
 abbrev pub ln : ℕ → ℕ → ℕ → ℕ → ℕ → ℕ → Line
 ln c p n q s y = record { code = c; place = p; number = n; equation = q; step = s; name = y }
 
--- the outputs for the example's file, for no bytes, for 7, 8 and 9 zero bytes, and for files of 4,097 records and of 16,385 text bytes
+-- the outputs for the example's file, for no bytes, for 1, 7, 8 and 9 zero bytes, and for files of 4,097 records and of 16,385 text bytes
 pub example-printed :
-    (output (written example) ∷ output [] ∷ output (replicate 7 0) ∷ output (replicate 8 0) ∷ output (replicate 9 0) ∷ output (1 ∷ 16 ∷ replicate 36879 0) ∷ output (0 ∷ 0 ∷ 0 ∷ 0 ∷ 1 ∷ 64 ∷ replicate 16387 0) ∷ [])
-    ≡ (bytes "lines 3 followed 2\nE0060 node 0 - 0 a\nE0060 node 0 - 1 b\nE0060 node 0 - 2 a\n" ∷ refused ∷ refused ∷ bytes "refused 5 at 0\n" ∷ refused ∷ refused ∷ refused ∷ [])
+    (output (written example) ∷ output [] ∷ output (0 ∷ []) ∷ output (replicate 7 0) ∷ output (replicate 8 0) ∷ output (replicate 9 0) ∷ output (1 ∷ 16 ∷ replicate 36879 0) ∷ output (0 ∷ 0 ∷ 0 ∷ 0 ∷ 1 ∷ 64 ∷ replicate 16387 0) ∷ [])
+    ≡ (bytes "lines 3 followed 2\nE0060 node 0 - 0 a\nE0060 node 0 - 1 b\nE0060 node 0 - 2 a\n" ∷ blank ∷ refused ∷ refused ∷ blank ∷ refused ∷ refused ∷ refused ∷ [])
 unfolding computes example number-in words-in right parts parse bytes-of words-bytes written digits four-digits letter code field place name front line header line-count output-lines joined printed output-of
 example-printed = refl
 

@@ -3,13 +3,14 @@
 use Prim.Native.Nat.{ℕ, zero, suc, _+_, _*_, _-_, _^_, _≤_, _<_}
 use native.Mathlib.Nat.{pow-suc, pow-le-pow-right}
 use native.Mathlib.Omega.{arith}
+use native.Mathlib.Decide.{decLt}
 use mathlib.Core.Path.{_≡_, refl, sym, ap, _∙_}
 use mathlib.Core.List.{List, [], _∷_, _++_}
 use mathlib.Core.Bool.{Bool, true, false, _&&_}
 use mathlib.Core.Option.{Option, some, none}
-use borrow.Author.Tests.{leb-true, eqb-true, le-leb, lt-leb, eq-eqb}
+use borrow.Author.Tests.{leb-true, eqb-true, le-leb, lt-leb, eq-eqb, ne-eqb}
 use lib.Dec.{leb, eqb}
-use lib.ListN.{length, getD, take, drop, set, length-set, length-drop}
+use lib.ListN.{length, getD, take, drop, set, length-set, length-drop, drop-of-length-le}
 use lib.Seq.{drop-cons, drop-length, drop-drop, set-at, append-snoc, length-take-le, take-all}
 use Rattle.lustre.specs.Name.{if_then_else_}
 use Rattle.format.specs.File.{number-in, words-in, records-in, text-in, right, Model, parts, parse, sizes-of, kinds-of, text-of, decoded, words-after, Decoded}
@@ -98,6 +99,14 @@ stored-more {bs} {lent} {words} {n} {i} w s l room e = record {
 pub stored-all : {bs lent words : List ℕ} {n i : ℕ} → Stored bs lent words n i → n ≤ i → words ≡ words-in n bs ++ drop n lent
 stored-all {bs} {lent} {words} {n} {i} s h = let e : i ≡ n = omega (arith, s .within) in s .holds ∙ ap (λ (k : ℕ). words-in k bs ++ drop k lent) e
 
+-- the bytes from a place on, as a part of a file
+pub from-place : (file : List ℕ) (at : ℕ) → take (length file - at) (drop at file) ≡ drop at file
+from-place file at = take-all (length file - at) (drop at file) (simp length-drop (omega arith))
+
+-- from its end on there are none
+pub past-end : (file : List ℕ) (at : ℕ) → length file ≤ at → [] ≡ drop at file
+past-end file at h = sym (drop-of-length-le file {i = at} h)
+
 -- both of two tests that pass together
 pub both : (a b : Bool) → a && b ≡ true → (a ≡ true) × (b ≡ true)
 both true true e = (refl, refl)
@@ -124,69 +133,121 @@ pub fits-right : {file : List ℕ} {n t : ℕ} → Fits file n t → right file 
 unfolding right
 fits-right {file} {n} {t} f = simp (le-leb n 4096 (f .few), le-leb t 16384 (f .short), eq-eqb (length file) (8 + 9 * n + t) (f .whole))
 
--- a file that is none is not parsed
-pub wrong : (file : List ℕ) (n t : ℕ) → n ≡ records-in file → t ≡ text-in file → (Fits file n t → ⊥) → parse file ≡ none
+-- a file without bytes has its parts for sizes zero
+parse-blank : (file : List ℕ) → length file ≡ 0 → parse file ≡ some (parts file 0 0)
 unfolding parse
-wrong file n t e i h = go (right file (records-in file) (text-in file)) refl
-  where
-    go : (b : Bool) → right file (records-in file) (text-in file) ≡ b → (if right file (records-in file) (text-in file) then some (parts file (records-in file) (text-in file)) else none) ≡ none
-    go true r = absurd (h (rw (e, i) (right-fits file (records-in file) (text-in file) r)))
-    go false r = simp r
+parse-blank file e = rw (eq-eqb (length file) 0 e)
 
--- one that is has its parts
-pub fine : (file : List ℕ) (n t : ℕ) → n ≡ records-in file → t ≡ text-in file → Fits file n t → parse file ≡ some (parts file n t)
+-- what any other holds
+parse-full : (file : List ℕ) → 0 < length file
+    → parse file ≡ (if right file (records-in file) (text-in file) then some (parts file (records-in file) (text-in file)) else none)
 unfolding parse
-fine file n t e i f = simp (← e, ← i, fits-right f)
-
--- a part of n elements from k on
-part-length : (n k : ℕ) (l : List ℕ) → n + k ≤ length l → length (take n (drop k l)) ≡ n
-part-length n k l h = length-take-le n (drop k l) (simp length-drop (omega arith))
-
--- the kinds of a file of n records are n
-pub kinds-length : {file : List ℕ} {n t : ℕ} → Fits file n t → length (parts file n t .kinds) ≡ n
-unfolding parts
-kinds-length {file} {n} {t} f = part-length n 8 file (omega (arith, f .whole))
-
--- its text is t bytes long
-text-length : {file : List ℕ} {n t : ℕ} → Fits file n t → length (parts file n t .text) ≡ t
-unfolding parts
-text-length {file} {n} {t} f = part-length t (8 + 9 * n) file (omega (arith, f .whole))
-
--- the sizes of a wrong file
-pub sizes-wrong : (file : List ℕ) (n t : ℕ) → n ≡ records-in file → t ≡ text-in file → (Fits file n t → ⊥) → Wrong ≡ sizes-of (parse file)
-unfolding sizes-of
-sizes-wrong file n t e i h = sym (ap sizes-of (wrong file n t e i h))
-
--- the sizes of a file that is right
-pub sizes-right : (file : List ℕ) (n t : ℕ) → n ≡ records-in file → t ≡ text-in file → Fits file n t → Parts n t ≡ sizes-of (parse file)
-unfolding sizes-of
-sizes-right file n t e i f = sym (ap sizes-of (fine file n t e i f) ∙ ap (λ (k : ℕ). Parts k (length (parts file n t .text))) (kinds-length f) ∙ ap (λ (k : ℕ). Parts n k) (text-length f))
-
--- what is known of a file with sizes n and t
-pub record Known (file : List ℕ) (n t : ℕ) : Type 0 where
-  pub fits : Fits file n t
-  pub parsed : parse file ≡ some (parts file n t)
+parse-full file h = rw (ne-eqb (length file) 0 (λ e. omega arith))
 
 -- a file that fails the test is not parsed
-pub unparsed : (file : List ℕ) → right file (records-in file) (text-in file) ≡ false → parse file ≡ none
-unfolding parse
-unparsed file r = simp r
+unparsed : (file : List ℕ) → 0 < length file → right file (records-in file) (text-in file) ≡ false → parse file ≡ none
+unparsed file h r = parse-full file h ∙ rw r
 
--- sizes n and t are those of a right file
+-- one that passes it has its parts
+pub fine : (file : List ℕ) (n t : ℕ) → n ≡ records-in file → t ≡ text-in file → Fits file n t → parse file ≡ some (parts file n t)
+fine file n t e i f = parse-full file (omega (arith, f .whole)) ∙ simp (← e, ← i, fits-right f)
+
+-- one that does not fit fails it
+wrong : (file : List ℕ) (n t : ℕ) → 0 < length file → n ≡ records-in file → t ≡ text-in file → (Fits file n t → ⊥) → parse file ≡ none
+wrong file n t full e i h = go (right file (records-in file) (text-in file)) refl
+  where
+    go : (b : Bool) → right file (records-in file) (text-in file) ≡ b → parse file ≡ none
+    go true r = absurd (h (rw (e, i) (right-fits file (records-in file) (text-in file) r)))
+    go false r = unparsed file full r
+
+-- What is known of a file with sizes n and t: behind its first eight bytes there are n records and t text bytes, and these are its parts. A file
+-- without bytes has none behind them.
+pub record Known (file : List ℕ) (n t : ℕ) : Type 0 where
+  pub few : n ≤ 4096
+  pub short : t ≤ 16384
+  pub behind : length file - 8 ≡ 9 * n + t
+  pub parsed : parse file ≡ some (parts file n t)
+
+-- a file without bytes
+known-blank : (file : List ℕ) → length file ≡ 0 → Known file 0 0
+known-blank file e = record { few = omega arith; short = omega arith; behind = omega arith; parsed = parse-blank file e }
+
+-- a file that fits
+known-fits : (file : List ℕ) (n t : ℕ) → n ≡ records-in file → t ≡ text-in file → Fits file n t → Known file n t
+known-fits file n t e i f = record { few = f .few; short = f .short; behind = omega (arith, f .whole); parsed = fine file n t e i f }
+
+-- a file that holds nothing, or its parts
+pub data Either (file : List ℕ) : Type 0 where
+  nothing : parse file ≡ none → Either file
+  model : (n t : ℕ) → Known file n t → Either file
+
+-- each file is one of the two
+pub either : (file : List ℕ) → Either file
+either file = by (decLt 0 (length file))
+  where
+    go : (b : Bool) → 0 < length file → right file (records-in file) (text-in file) ≡ b → Either file
+    go true h r = model (records-in file) (text-in file) (known-fits file (records-in file) (text-in file) refl refl (right-fits file (records-in file) (text-in file) r))
+    go false h r = nothing (unparsed file h r)
+
+    by : Dec (0 < length file) → Either file
+    by (yes h) = go (right file (records-in file) (text-in file)) h refl
+    by (no h) = model 0 0 (known-blank file (omega arith))
+
+-- a part of n elements from k on, of which there are enough behind the first k
+part-length : (n k : ℕ) (l : List ℕ) → n ≤ length l - k → length (take n (drop k l)) ≡ n
+part-length n k l h = length-take-le n (drop k l) (simp length-drop h)
+
+-- the kinds of a file of n records are n
+pub kinds-length : {file : List ℕ} {n t : ℕ} → Known file n t → length (parts file n t .kinds) ≡ n
+unfolding parts
+kinds-length {file} {n} {t} k = part-length n 8 file (omega (arith, k .behind))
+
+-- its text is t bytes long
+text-length : {file : List ℕ} {n t : ℕ} → Known file n t → length (parts file n t .text) ≡ t
+unfolding parts
+text-length {file} {n} {t} k = part-length t (8 + 9 * n) file (omega (arith, k .behind))
+
+-- so many are in the bytes behind the first eight
+pub kinds-count : {file part : List ℕ} {n t : ℕ} → Known file n t → part ≡ drop 8 file → n ≡ length (take n part)
+unfolding parts
+kinds-count {file} {part} {n} {t} k e = sym (ap (λ (l : List ℕ). length (take n l)) e ∙ kinds-length k)
+
+-- and in those behind the records
+pub text-count : {file part : List ℕ} {n t : ℕ} → Known file n t → part ≡ drop (8 + 9 * n) file → t ≡ length (take t part)
+unfolding parts
+text-count {file} {part} {n} {t} k e = sym (ap (λ (l : List ℕ). length (take t l)) e ∙ text-length k)
+
+-- the sizes of a wrong file
+pub sizes-wrong : (file : List ℕ) (n t : ℕ) → 0 < length file → n ≡ records-in file → t ≡ text-in file → (Fits file n t → ⊥) → Wrong ≡ sizes-of (parse file)
+unfolding sizes-of
+sizes-wrong file n t full e i h = sym (ap sizes-of (wrong file n t full e i h))
+
+-- the sizes of a known file
+sizes-known : {file : List ℕ} {n t : ℕ} → Known file n t → Parts n t ≡ sizes-of (parse file)
+unfolding sizes-of
+sizes-known {file} {n} {t} k = sym (ap sizes-of (k .parsed) ∙ ap (λ (j : ℕ). Parts j (length (parts file n t .text))) (kinds-length k) ∙ ap (λ (j : ℕ). Parts n j) (text-length k))
+
+-- of one without bytes
+pub sizes-blank : (file : List ℕ) → length file ≡ 0 → Parts 0 0 ≡ sizes-of (parse file)
+sizes-blank file e = sizes-known (known-blank file e)
+
+-- of one that is right
+pub sizes-right : (file : List ℕ) (n t : ℕ) → n ≡ records-in file → t ≡ text-in file → Fits file n t → Parts n t ≡ sizes-of (parse file)
+sizes-right file n t e i f = sizes-known (known-fits file n t e i f)
+
+-- sizes n and t are those of a known file
 pub known : (file : List ℕ) (n t : ℕ) (r : File) → r ≡ sizes-of (parse file) → r ≡ Parts n t → Known file n t
 unfolding sizes-of
-known file n t s e i = go (right file (records-in file) (text-in file)) refl
+known file n t s e i = go (either file)
   where
-    go : (b : Bool) → right file (records-in file) (text-in file) ≡ b → Known file n t
-    go true r =
-        let f : Fits file (records-in file) (text-in file) = right-fits file (records-in file) (text-in file) r in
-        let same : Parts (records-in file) (text-in file) ≡ sizes-of (parse file) = sizes-right file (records-in file) (text-in file) refl refl f in
-        let a : records-in file ≡ n = cc in
-        let b : text-in file ≡ t = cc in
-        let all : Known file (records-in file) (text-in file) = record { fits = f; parsed = fine file (records-in file) (text-in file) refl refl f } in
-        rw (a, b) at all
-    go false r =
-        let w : Wrong ≡ sizes-of (parse file) = sym (ap sizes-of (unparsed file r)) in
+    go : Either file → Known file n t
+    go (model m u k) =
+        let same : Parts m u ≡ sizes-of (parse file) = sizes-known k in
+        let a : m ≡ n = cc in
+        let b : u ≡ t = cc in
+        rw (a, b) at k
+    go (nothing p) =
+        let w : Wrong ≡ sizes-of (parse file) = sym (ap sizes-of p) in
         let z : _≡_ {A = ℕ} 0 1 = cc in
         absurd (omega arith)
 
@@ -199,18 +260,14 @@ lost (some m) r e i =
     absurd (omega arith)
 
 -- the kinds of a right file
-pub kinds-known : {file : List ℕ} {n t : ℕ} → Known file n t → take (8 + n - 8) (drop 8 file) ≡ kinds-of (parse file)
+pub kinds-known : {file part : List ℕ} {n t : ℕ} → Known file n t → part ≡ drop 8 file → take n part ≡ kinds-of (parse file)
 unfolding kinds-of parts
-kinds-known {file} {n} {t} k =
-    let e : 8 + n - 8 ≡ n = omega arith in
-    ap (λ (j : ℕ). take j (drop 8 file)) e ∙ sym (ap kinds-of (k .parsed))
+kinds-known {file} {part} {n} {t} k e = ap (take n) e ∙ sym (ap kinds-of (k .parsed))
 
 -- the text of a right file
-pub text-known : {file : List ℕ} {n t : ℕ} → Known file n t → take (8 + 9 * n + t - (8 + 9 * n)) (drop (8 + 9 * n) file) ≡ text-of (parse file)
+pub text-known : {file part : List ℕ} {n t : ℕ} → Known file n t → part ≡ drop (8 + 9 * n) file → take t part ≡ text-of (parse file)
 unfolding text-of parts
-text-known {file} {n} {t} k =
-    let e : 8 + 9 * n + t - (8 + 9 * n) ≡ t = omega arith in
-    ap (λ (j : ℕ). take j (drop (8 + 9 * n) file)) e ∙ sym (ap text-of (k .parsed))
+text-known {file} {part} {n} {t} k e = ap (take t) e ∙ sym (ap text-of (k .parsed))
 
 -- a wrong file has no kinds
 pub kinds-lost : {o : Option Model} → o ≡ none → [] ≡ kinds-of o
@@ -248,12 +305,12 @@ unfolding parts
 words-parts file n t lent = ap (λ (j : ℕ). words-in n (drop (8 + n) file) ++ drop j lent) (words-length n (drop (8 + n) file))
 
 -- the words of a right file, as they are stored
-pub decoded-stored : {file lent words : List ℕ} {n t : ℕ} → Known file n t → n ≤ length lent → words ≡ words-in n (take (length file - (8 + n)) (drop (8 + n) file)) ++ drop n lent → Decoded file lent (Parts n t) words
+pub decoded-stored : {file lent part words : List ℕ} {n t : ℕ} → Known file n t → n ≤ length lent → part ≡ drop (8 + n) file → words ≡ words-in n part ++ drop n lent → Decoded file lent (Parts n t) words
 unfolding decoded words-after
-decoded-stored {file} {lent} {words} {n} {t} k h e =
+decoded-stored {file} {lent} {part} {words} {n} {t} k h p e =
     let count : length (parts file n t .words) ≡ n = words-known file n t in
     let yes : leb (length (parts file n t .words)) (length lent) ≡ true = le-leb (length (parts file n t .words)) (length lent) (omega arith) in
     record {
-      answer = sym (ap (λ (o : Option Model). decoded o (length lent)) (k .parsed) ∙ simp yes (ap (λ (j : ℕ). Parts j (length (parts file n t .text))) (kinds-length (k .fits)) ∙ ap (λ (j : ℕ). Parts n j) (text-length (k .fits))));
-      stored = e ∙ ap (λ (bs : List ℕ). words-in n bs ++ drop n lent) (take-all (length file - (8 + n)) (drop (8 + n) file) (simp length-drop (omega arith))) ∙ sym (ap (λ (o : Option Model). words-after o lent) (k .parsed) ∙ simp yes (words-parts file n t lent));
+      answer = sym (ap (λ (o : Option Model). decoded o (length lent)) (k .parsed) ∙ simp yes (ap (λ (j : ℕ). Parts j (length (parts file n t .text))) (kinds-length k) ∙ ap (λ (j : ℕ). Parts n j) (text-length k)));
+      stored = e ∙ ap (λ (bs : List ℕ). words-in n bs ++ drop n lent) p ∙ sym (ap (λ (o : Option Model). words-after o lent) (k .parsed) ∙ simp yes (words-parts file n t lent));
     }

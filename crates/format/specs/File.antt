@@ -1,5 +1,6 @@
 -- The file that program `check` reads: document 01, 'Program `check` reads standard input'. Record count and text length, 4 bytes each,
--- low byte first; then the kind bytes and the words, 8 bytes each, low byte first, as two parallel arrays; then the text.
+-- low byte first; then the kind bytes and the words, 8 bytes each, low byte first, as two parallel arrays; then the text. A file of no bytes
+-- is read as sizes zero: request 2.1.
 -- Assumes nothing: these are definitions.
 use Prim.Native.Nat.{ℕ, zero, suc, _+_, _*_, _/_, _%_, _<_, _≤_, _^_}
 use mathlib.Core.Path.{_≡_}
@@ -44,9 +45,12 @@ right file n t = leb n 4096 && leb t 16384 && eqb (length file) (8 + 9 * n + t)
 unfoldable pub parts : List ℕ → ℕ → ℕ → Model
 parts file n t = record { kinds = take n (drop 8 file); words = words-in n (drop (8 + n) file); text = take t (drop (8 + 9 * n) file) }
 
--- what a file holds; nothing if its length is wrong or it exceeds a bound of refusal 1
+-- what a file holds: sizes zero if it has no bytes, nothing if its length is wrong or it exceeds a bound of refusal 1
 unfoldable pub parse : List ℕ → Option Model
-parse file = if right file (records-in file) (text-in file) then some (parts file (records-in file) (text-in file)) else none
+parse file =
+    if eqb (length file) 0 then some (parts file 0 0)
+    else if right file (records-in file) (text-in file) then some (parts file (records-in file) (text-in file))
+    else none
 
 -- the kinds of what was parsed, none where nothing was
 unfoldable pub kinds-of : Option Model → List ℕ

@@ -56,10 +56,13 @@ fn store_words(bytes: &[u8], n: usize, words: &mut [u64])
     }
 }
 
-// The sizes of a file, or that it is wrong.
+// The sizes of a file, zero if it has no bytes, or that it is wrong.
 fn sizes(file: &[u8]) -> File
     ensures { λ r. ⌜ r ≡ sizes-of (parse (now (file .entry))) ⌝ }
 {
+    if file.len() == 0 {
+        return File::Parts(0, 0);
+    }
     if file.len() < 8 {
         return File::Wrong;
     }
@@ -79,6 +82,16 @@ fn sizes(file: &[u8]) -> File
     File::Parts(records, text)
 }
 
+// The bytes of a file from a place on; none where it ends before.
+fn behind<'a>(file: &'a [u8], at: usize) -> &'a [u8]
+    ensures { λ r. ⌜ now r ≡ drop at (now (file .entry)) ⌝ }
+{
+    if at < file.len() {
+        return &file[at..];
+    }
+    &file[0..0]
+}
+
 // Stores a file's words and answers its sizes. A wrong file changes nothing; one with more words than are lent counts as wrong.
 pub fn decode(file: &[u8], words: &mut [u64]) -> File
     ensures { λ r. ⌜ Decoded (now (file .entry)) (now (words .entry)) r (now (words .exit)) ⌝ }
@@ -88,8 +101,7 @@ pub fn decode(file: &[u8], words: &mut [u64]) -> File
             if n > words.len() {
                 return File::Wrong;
             }
-            let from = 8 + n;
-            store_words(&file[from..], n, words);
+            store_words(behind(file, 8 + n), n, words);
             File::Parts(n, t)
         }
         File::Wrong => File::Wrong,
@@ -102,8 +114,8 @@ pub fn kinds_in<'a>(file: &'a [u8]) -> &'a [u8]
 {
     match sizes(file) {
         File::Parts(n, _) => {
-            let end = 8 + n;
-            &file[8..end]
+            let kinds = behind(file, 8);
+            &kinds[..n]
         }
         File::Wrong => &file[0..0],
     }
@@ -115,9 +127,8 @@ pub fn text_in<'a>(file: &'a [u8]) -> &'a [u8]
 {
     match sizes(file) {
         File::Parts(n, t) => {
-            let from = 8 + 9 * n;
-            let end = from + t;
-            &file[from..end]
+            let text = behind(file, 8 + 9 * n);
+            &text[..t]
         }
         File::Wrong => &file[0..0],
     }

@@ -2,7 +2,7 @@
 -- Assumes nothing.
 use Prim.Native.Nat.{ℕ, _≤_}
 use native.Mathlib.Omega.{arith}
-use mathlib.Core.Path.{_≡_, refl, ap, sym, _∙_}
+use mathlib.Core.Path.{_≡_, refl, ap, sym, subst, _∙_}
 use mathlib.Core.Bool.{Bool, true, false, _&&_, and-eq-true-iff}
 use mathlib.Core.List.{List, []}
 use mathlib.Core.Option.{Option, none, some}
@@ -13,37 +13,54 @@ use Rattle.lustre.specs.Name.{if_then_else_}
 use Rattle.lustre.specs.Names.{names-of, name-at}
 use Rattle.lustre.specs.Records.{spell}
 use Rattle.lustre.specs.Grammar.{one, a-project, flat-part}
-use Rattle.lustre.specs.Answer.{lowest, unless-refused, bad-sizes, too-deep-at, spelled, project-of}
+use Rattle.lustre.specs.Answer.{lowest, unless-refused, bad-sizes, too-deep-at, is-blank, spelled, project-records, project-of}
+use Rattle.lustre.proofs.Blank.{read-as-lent}
+use Rattle.demands.specs.Reading.{Tidy}
 use Rattle.demands.proofs.Naming.{accepted-names}
 use Rattle.demands.proofs.Reading.{spelled-tidy, whole-project}
 use Rattle.records.proofs.Spells.{spell-kinds, spell-past}
-use Rattle.input.specs.Input.{judged}
+use Rattle.input.specs.Input.{passing, judged}
 use Rattle.input.specs.Accepted.{Accepts}
-use Rattle.input.specs.declared.Input.the-variants.{Accepted, Refused}
+use Rattle.input.specs.declared.Input.the-variants.{Accepted, Blank, Refused}
 use Rattle.lustre.specs.declared.Refusal.{Refusal}
 use Rattle.lustre.proofs.Lowest.{passes}
 use Rattle.input.proofs.Shallow.{project-shallow}
 use Rattle.input.proofs.Numbers.{short-names, numbered, ranged, same-spelling}
 
--- what a call on accepted and on refused input goes by
+-- what a call on accepted, on blank and on refused input goes by
 module _ (kinds words text : List ℕ) (work : ℕ) where
-  -- accepted input: nothing is refused, and there are so many names
-  pub accepted : (n : ℕ) → judged kinds words text work ≡ Accepted n → (lowest kinds words text work ≡ none) × (length (names-of text) ≡ n)
-  unfolding judged unless-refused
-  accepted n = go (lowest kinds words text work)
+  -- accepted input: nothing is refused, it is not blank, and there are so many names
+  pub accepted : (n : ℕ) → judged kinds words text work ≡ Accepted n
+      → (lowest kinds words text work ≡ none) × (is-blank kinds text ≡ false) × (length (names-of text) ≡ n)
+  unfolding judged passing unless-refused
+  accepted n = go (lowest kinds words text work) (is-blank kinds text)
     where
-      go : (o : Option Refusal) → unless-refused o Refused (Accepted (length (names-of text))) ≡ Accepted n → (o ≡ none) × (length (names-of text) ≡ n)
-      go none q = (refl, cc)
-      go (some r) q = (cc, cc)
+      go : (o : Option Refusal) (b : Bool) → unless-refused o Refused (if b then Blank else Accepted (length (names-of text))) ≡ Accepted n
+          → (o ≡ none) × (b ≡ false) × (length (names-of text) ≡ n)
+      go none true q = (refl, cc, cc)
+      go none false q = (refl, refl, cc)
+      go (some r) b q = (cc, cc, cc)
+
+  -- a blank file: nothing is refused
+  pub blank : judged kinds words text work ≡ Blank → (lowest kinds words text work ≡ none) × (is-blank kinds text ≡ true)
+  unfolding judged passing unless-refused
+  blank = go (lowest kinds words text work) (is-blank kinds text)
+    where
+      go : (o : Option Refusal) (b : Bool) → unless-refused o Refused (if b then Blank else Accepted (length (names-of text))) ≡ Blank
+          → (o ≡ none) × (b ≡ true)
+      go none true q = (refl, refl)
+      go none false q = (refl, cc)
+      go (some r) b q = (cc, cc)
 
   -- refused input: its refusal is given first
   pub refused : (r : Refusal) → judged kinds words text work ≡ Refused r → lowest kinds words text work ≡ some r
-  unfolding judged unless-refused
-  refused r = go (lowest kinds words text work)
+  unfolding judged passing unless-refused
+  refused r = go (lowest kinds words text work) (is-blank kinds text)
     where
-      go : (o : Option Refusal) → unless-refused o Refused (Accepted (length (names-of text))) ≡ Refused r → o ≡ some r
-      go none q = cc
-      go (some s) q = let z : s ≡ r = cc in ap some z
+      go : (o : Option Refusal) (b : Bool) → unless-refused o Refused (if b then Blank else Accepted (length (names-of text))) ≡ Refused r → o ≡ some r
+      go none true q = cc
+      go none false q = cc
+      go (some s) b q = let z : s ≡ r = cc in ap some z
 
 -- a test that refuses where it is false is true where it does not refuse
 held : (t : Bool) → _≡_ {A = Option ℕ} (if t then none else some 0) none → t ≡ true
@@ -62,13 +79,15 @@ sized ks ws text q =
 pub accepts : Accepts
 unfolding spelled project-of
 accepts ks ws text work n q =
-    let h = passes ks ws text work (accepted ks ws text work n q .0) in
+    let a = accepted ks ws text work n q in
+    let h = passes ks ws text work (a .0) in
+    let lent = read-as-lent ks ws text (a .1) in
     let size = sized ks ws text (h .sizes) in
     let names = accepted-names text (h .named) in
     let numbering = numbered (names-of text) names (short-names text (h .named)) in
     let P = project-of ks ws text in
-    let tree = whole-project (spelled ks ws text) (spelled-tidy (name-at (names-of text)) ks ws) (h .project) in
-    let same : spell (numbering .text) ks ws ≡ flat-part (one a-project) P [] = same-spelling (numbering .text) (name-at (names-of text)) (length (names-of text)) (numbering .is) 0 ks ws (h .ranged) ∙ tree .1 in
+    let tree = whole-project (project-records ks ws text) (subst Tidy (sym lent) (spelled-tidy (name-at (names-of text)) ks ws)) (h .project) in
+    let same : spell (numbering .text) ks ws ≡ flat-part (one a-project) P [] = same-spelling (numbering .text) (name-at (names-of text)) (length (names-of text)) (numbering .is) 0 ks ws (h .ranged) ∙ sym lent ∙ tree .1 in
     record {
       same = size .0;
       few = size .1;

@@ -32,6 +32,9 @@ fn print_answer(a: Input) {
             io::write_all(1, b"accepted ");
             io::print_decimal(1, names);
         }
+        Input::Blank => {
+            io::write_all(1, b"blank");
+        }
         Input::Refused(r) => {
             let n = refusal_numbers(r);
             io::write_all(1, b"refused ");

@@ -7,3 +7,4 @@ pub mod Pinned
 pub mod Reading
 pub mod Refusals
 pub mod Lowest
+pub mod Blank

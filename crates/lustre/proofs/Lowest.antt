@@ -1,15 +1,16 @@
 -- The refusals of what is lent, for every call that has them: none is a report, where none is given none applies, and what a call answers
 -- in each of the two cases.
 -- Assumes nothing.
-use Prim.Native.Nat.{ℕ}
+use Prim.Native.Nat.{ℕ, _≤_}
 use native.Mathlib.Omega.{arith}
 use mathlib.Core.Path.{_≡_, refl, ap}
 use mathlib.Core.List.{List}
 use mathlib.Core.Option.{Option, none, some}
 use lib.ListN.{length}
+use borrow.Author.Tests.{eq-eqb, le-leb, le-ltb}
 use Rattle.lustre.specs.Names.{bad-name, names-of}
 use Rattle.lustre.specs.Records.{bad-record}
-use Rattle.lustre.specs.Answer.{number-and-place, refusal-of, bad-sizes, short-work, spelled, no-project, too-deep-at, refuse, lowest, unless-refused}
+use Rattle.lustre.specs.Answer.{number-and-place, refusal-of, bad-sizes, short-work, project-records, no-project, too-deep-at, refuse, lowest, unless-refused}
 use Rattle.lustre.specs.declared.Answer.{Answer}
 use Rattle.lustre.specs.declared.Answer.the-variants.{Refused}
 use Rattle.lustre.specs.declared.Refusal.{Refusal}
@@ -42,6 +43,16 @@ unfolding unless-refused
 reports none own e = (refl, refl)
 reports (some r) own e = absurd (refusal-above r e)
 
+-- sizes in order pass refusal 1
+pub sizes-pass : (kinds words text : List ℕ) → length kinds ≡ length words → length kinds ≤ 4096 → length text ≤ 16384 → bad-sizes kinds words text ≡ none
+unfolding bad-sizes
+sizes-pass kinds words text e f g = rw (eq-eqb (length kinds) (length words) e, le-leb (length kinds) 4096 f, le-leb (length text) 16384 g)
+
+-- enough work memory passes refusal 2
+pub work-passes : (work : ℕ) → 4096 ≤ work → short-work work ≡ none
+unfolding short-work
+work-passes work w = rw (le-ltb work 4096 w)
+
 -- where nothing is refused, none of the six applies
 module _ (kinds words text : List ℕ) (work : ℕ) where
   pub record Passes : Type 0 where
@@ -49,8 +60,8 @@ module _ (kinds words text : List ℕ) (work : ℕ) where
     pub enough : short-work work ≡ none
     pub named : bad-name text ≡ none
     pub ranged : bad-record (length (names-of text)) 0 kinds words ≡ none
-    pub project : no-project (spelled kinds words text) ≡ none
-    pub shallow : too-deep-at (spelled kinds words text) ≡ none
+    pub project : no-project (project-records kinds words text) ≡ none
+    pub shallow : too-deep-at (project-records kinds words text) ≡ none
 
   -- a refusal that is not given applies nowhere, and the next is not given
   passed : (o : Option ℕ) (refusal : ℕ → Refusal) (next : Option Refusal) → refuse o refusal next ≡ none → (o ≡ none) × (next ≡ none)
@@ -65,6 +76,6 @@ module _ (kinds words text : List ℕ) (work : ℕ) where
       let two = passed (short-work work) _ _ (one .1) in
       let three = passed (bad-name text) _ _ (two .1) in
       let four = passed (bad-record (length (names-of text)) 0 kinds words) _ _ (three .1) in
-      let five = passed (no-project (spelled kinds words text)) _ _ (four .1) in
-      let six = passed (too-deep-at (spelled kinds words text)) _ _ (five .1) in
+      let five = passed (no-project (project-records kinds words text)) _ _ (four .1) in
+      let six = passed (too-deep-at (project-records kinds words text)) _ _ (five .1) in
       record { sizes = one .0; enough = two .0; named = three .0; ranged = four .0; project = five .0; shallow = six .0 }

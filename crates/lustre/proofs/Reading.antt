@@ -12,8 +12,8 @@ use Rattle.lustre.specs.Expr.{Expr, Exprs, Not, Neg, Map, Fold, BinOp, A
 use Rattle.lustre.specs.Expr.{Add, Sub, Mul, Div, Mod, BitAnd, BitOr, BitXor, Shl, Shr}
 use Rattle.lustre.specs.Expr.{const, bool, int, float, char, unary, binary, ite, pre, arrow, index, tuple, array, cast, []ᵉ, _∷ᵉ_, []ⁱ}
 use Rattle.lustre.specs.Project.{Decl, Constant, Equation, Node, Project, Function, Operator, Imported}
-use Rattle.lustre.specs.Grammar.{flat-project}
-use Rattle.lustre.specs.Answer.{spelled, project-of}
+use Rattle.lustre.specs.Grammar.{numbered-rec, flat-project}
+use Rattle.lustre.specs.Answer.{spelled, project-records, project-of}
 use Rattle.lustre.specs.Computes.{computes}
 use Rattle.lustre.proofs.Models.{text, Named′, _of_, v, call′, field′, struct′, init′, when′, merge′, iterate′, iterate-from′}
 use Rattle.lustre.proofs.Models.{alias′, record′, enum′, constant′, _≔≔_, node′, pack}
@@ -193,6 +193,14 @@ readings =
     (tree (project-of kinds words letters), tree every)
     -- and the project is flattened to these records
     ∷ (flattened (flat-project every []), flattened (spelled kinds words letters))
+    -- a blank file has no record and is the project without packages, as a project record without them is
+    ∷ (flattened (spelled [] [] []), flattened [])
+    ∷ (flattened (project-records [] [] []), flattened (numbered-rec 1 0 ∷ []))
+    ∷ (tree (project-of [] [] []), tree [])
+    ∷ (tree (project-of (1 ∷ []) (0 ∷ []) []), tree [])
+    -- no records with a text, and records without one, are not blank
+    ∷ (flattened (project-records [] [] letters), flattened [])
+    ∷ (flattened (project-records (3 ∷ []) (0 ∷ []) []), flattened (numbered-rec 3 0 ∷ []))
     ∷ []
 
 -- every row holds

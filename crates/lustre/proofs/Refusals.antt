@@ -36,7 +36,7 @@ infix 50 _answers_
 abbrev _answers_ : Answer → Answer → Held × Held
 a answers b = (answered a, answered b)
 
--- no records and this text: refusal 3 or, if the names are good, refusal 5 at 0
+-- no records and this text, which is not empty: refusal 3 or, if the names are good, refusal 5 at 0
 infix 50 _as-names_
 abbrev _as-names_ : List ℕ → Answer → Held × Held
 t as-names a = (answered (calling [] t), answered a)
@@ -95,9 +95,17 @@ sizes-and-names =
     -- 2: fewer than 4,096 words, at their number; 3 comes after it
     ∷ (answer [] [] (text "\0") 4095 8 answers Refused (ShortWork 4095))
     ∷ (answer [] [] (text "\0") 4096 8 answers Refused (BadName 0))
-    -- no records: refusal 5 at 0
-    ∷ (answer [] [] [] 4096 8 answers Refused (NoProject 0))
-    ∷ (answer [] [] [] 5000 0 answers Refused (NoProject 0))
+    -- a blank file, no records and no text, is a project without packages; 1 and 2 come before it
+    ∷ (answer [] [] [] 4096 8 answers Report 0 0)
+    ∷ (answer [] [] [] 5000 0 answers Report 0 0)
+    ∷ (answer [] [] [] 4095 8 answers Refused (ShortWork 4095))
+    ∷ (answer [] (0 ∷ []) [] 4095 8 answers Refused Sizes)
+    -- no records and names: refusal 5 at 0. A project record alone is what it was, with names and without
+    ∷ (answer [] [] (text "a\0") 4096 8 answers Refused (NoProject 0))
+    ∷ (calling ((1, 0) ∷ []) [] answers Report 0 0)
+    ∷ (calling ((1, 0) ∷ []) (text "a\0") answers Report 0 0)
+    ∷ (calling ((1, 1) ∷ []) [] answers Refused (NoProject 1))
+    ∷ (calling ((3, 0) ∷ []) [] answers Refused (NoProject 0))
     -- 3: names of 1 to 64 bytes, closed by a zero byte
     ∷ (text "\0" as-names Refused (BadName 0))
     ∷ (text "a\0\0" as-names Refused (BadName 1))
@@ -384,7 +392,12 @@ buffers =
     ∷ (lines (lines-after (85 ∷ []) (0 ∷ []) [] 4096 (old ∷ [])), lines (old ∷ []))
     ∷ (lines (lines-after (1 ∷ []) (4097 ∷ []) [] 4096 (old ∷ [])), lines (old ∷ []))
     ∷ (words (work-after (1 ∷ []) (4097 ∷ []) [] 8 (replicate 4096 7)), words (replicate 4096 7))
+    -- after the report on a blank file the lines are as they were and the work memory is zero; with names nothing changes
     ∷ (lines (lines-after [] [] [] 4096 (old ∷ [])), lines (old ∷ []))
+    ∷ (words (work-after [] [] [] 8 (replicate 4097 7)), words (zeros 4097))
+    ∷ (lines (lines-after [] [] (text "a\0") 4096 (old ∷ [])), lines (old ∷ []))
+    ∷ (words (work-after [] [] (text "a\0") 8 (replicate 4096 7)), words (replicate 4096 7))
+    ∷ (words (work-after [] [] [] 8 (replicate 4095 7)), words (replicate 4095 7))
     -- kinds 20, 23, 30 and 31 are the types of literals: constants a of Bool, b of Int32, c of Float64 and d of Char, and e is 1.0 = c
     ∷ (calling literals (text "a\0b\0c\0d\0e\0") answers Report 0 0)
     -- the six fields of a stored line, at each kind of place: package, enum, type, constant, node; in its equation, at a step

@@ -1,4 +1,4 @@
--- The answer of a call and what the lent buffers hold after it: document 01, 'What is lent', and request 2.2.
+-- The answer of a call and what the lent buffers hold after it: document 01, 'What is lent', and requests 2.1 and 2.2.
 -- Assumes nothing: these are definitions.
 use Prim.Native.Nat.{ℕ, _-_, min}
 use mathlib.Core.Bool.{Bool, true, false, _&&_}
@@ -9,7 +9,7 @@ use lib.ListN.{length, getD, take, drop, replicate}
 use Rattle.lustre.specs.Name.{Name, if_then_else_}
 use Rattle.lustre.specs.Names.{bad-name, names-of, name-at, number-of}
 use Rattle.lustre.specs.Records.{Rec, word-class, is-known, bad-record, spell}
-use Rattle.lustre.specs.Grammar.{Got, got, stuck, one, a-project, read-project, whole}
+use Rattle.lustre.specs.Grammar.{Got, got, stuck, one, a-project, read-project, whole, flat-project}
 use Rattle.lustre.specs.Levels.{deep-record}
 use Rattle.lustre.specs.Project.{Project}
 use Rattle.lustre.specs.Line.{Place, at-package, at-enum, at-type, at-constant, at-node}
@@ -57,9 +57,17 @@ bad-sizes kinds words text = if eqb (length kinds) (length words) && leb (length
 unfoldable pub short-work : ℕ → Option ℕ
 short-work work = if ltb work 4096 then some work else none
 
--- the records with each name word as its name's text
+-- the records lent, with each name word as its name's text
 unfoldable pub spelled : List ℕ → List ℕ → List ℕ → List Rec
 spelled kinds words text = spell (name-at (names-of text)) kinds words
+
+-- A blank model file, request 2.1: no records and no text.
+unfoldable pub is-blank : (kinds text : List ℕ) → Bool
+is-blank kinds text = eqb (length kinds) 0 && eqb (length text) 0
+
+-- The records that a project is read from: those lent; where the file is blank, and so has none, those of a project without packages.
+unfoldable pub project-records : (kinds words text : List ℕ) → List Rec
+project-records kinds words text = if is-blank kinds text then flat-project [] [] else spelled kinds words text
 
 -- Refusal 5: the place of the first of n records that cannot stand or is left over, n if they end early.
 unfoldable pub place-in : ℕ → Got Project → Option ℕ
@@ -82,7 +90,7 @@ abbrev pub project-read : List Rec → Project
 project-read rs = project-in (whole (read-project rs))
 
 unfoldable pub project-of : List ℕ → List ℕ → List ℕ → Project
-project-of kinds words text = project-read (spelled kinds words text)
+project-of kinds words text = project-read (project-records kinds words text)
 
 -- Refusal 4 or 8, of the first bad record: 4 if its kind is unknown, whatever its word, else 8.
 unfoldable pub record-refusal : List ℕ → ℕ → Refusal
@@ -100,8 +108,8 @@ lowest kinds words text work =
     (refuse (short-work work) ShortWork
     (refuse (bad-name text) BadName
     (refuse (bad-record (length (names-of text)) 0 kinds words) (record-refusal kinds)
-    (refuse (no-project (spelled kinds words text)) NoProject
-    (refuse (too-deep-at (spelled kinds words text)) TooDeep
+    (refuse (no-project (project-records kinds words text)) NoProject
+    (refuse (too-deep-at (project-records kinds words text)) TooDeep
     none)))))
 
 -- What a call on a project answers: the refusal of what is lent, in the call's own type of answers, or else an answer of its own.

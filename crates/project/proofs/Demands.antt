@@ -12,35 +12,29 @@ use lib.ListN.{length, drop, length-map}
 use lib.Seq.{take-all, getD-drop}
 use borrow.Author.Tests.{eq-eqb}
 use Rattle.lustre.specs.Name.{Name, if_then_else_}
-use Rattle.lustre.specs.Names.{names-of, name-at}
+use Rattle.lustre.specs.Names.{names-of}
 use Rattle.lustre.specs.Records.{Rec}
 use Rattle.lustre.specs.Project.{Project, Equation}
 use Rattle.lustre.specs.Line as Report
 use Rattle.lustre.specs.Report.{report, followed, of-place}
 use Rattle.lustre.specs.Node.{path-notes, of-node}
 use Rattle.lustre.specs.Walk.{rust-search}
-use Rattle.lustre.specs.Answer.{answer, reported, refusal-of, second-of, spelled, project-read, project-of, or-none, place-number, writes, stored, stored-report}
+use Rattle.lustre.specs.Answer.{answer, reported, refusal-of, second-of, project-read, project-of, or-none, place-number, writes, stored, stored-report}
+use Rattle.lustre.proofs.Blank.{blank-spelled, blank-project, blank-stored, without-text, blank-reported, no-names-refused, names-refused}
 use Rattle.lustre.specs.declared.Line.{Line}
 use Rattle.lustre.specs.declared.Answer.the-variants.{Report, MoreLines}
 use Rattle.demands.specs.Nodes.{keep, about-node}
-use Rattle.demands.specs.Reading.{part-of}
 use Rattle.demands.specs.Loops as Loops
 use Rattle.demands.specs.Demand3 as Given
 use Rattle.demands.specs.Demand3.{Said, said, about}
-use Rattle.demands.proofs.Known.{Known-records}
 use Rattle.demands.proofs.Keeps.{keep-map}
-use Rattle.demands.proofs.Naming.{accepted-names}
-use Rattle.demands.proofs.Reading.{spelled-tidy, whole-project}
-use Rattle.demands.proofs.NodeParts.{node-parts}
-use Rattle.demands.proofs.RecordNames.{Among, project-known, spelled-known}
-use Rattle.demands.proofs.ReportNames.{report-known}
-use Rattle.demands.proofs.Calls.{passed, reported-lines, spoken-name, spoken, said-lines}
+use Rattle.demands.proofs.Calls.{passed, reported-lines, spoken-name, spoken}
 use Rattle.demands.proofs.Loops as Loops-proved
 use Rattle.demands.proofs.Demand3 as Proved
 use Rattle.lines.specs.Lines.{words, room, line-in}
 use Rattle.project.specs.Call.{over-words, buffer-after}
-use Rattle.project.proofs.Answers.{answer-report}
-use Rattle.project.specs.Demands.{Check, Reported, records, project, lines-in, lines-of, Report-of, Demand-3, Unused-names, No-stray, loop-lines, path-lines, Operator-lines, Demand-2-loops}
+use Rattle.project.proofs.Answers.{answer-report, nothing-stored}
+use Rattle.project.specs.Demands.{Check, Reported, project, lines-in, lines-of, Report-of, Demand-3, Unused-names, No-records, No-stray, loop-lines, path-lines, Operator-lines, Demand-2-loops}
 
 -- ---- lines in a buffer
 
@@ -118,24 +112,15 @@ module _ (c : Check) (r : Reported c) where
 
   -- they are the lines of the report, with names as texts
   pub lines-spoken : lines-of c r ≡ map spoken (report (project c))
-  unfolding spelled project-of
-  lines-spoken =
-      let h = passed (call c) given in
-      let names = names-of (c .text) in
-      let tree = whole-project (records c) (spelled-tidy (name-at names) (c .kinds) (c .words)) (h .tree) in
-      let known = spelled-known names (c .kinds) (c .words) 0 (h .ranged) in
-      same-lines ∙ reported-lines (call c) given
-      ∙ said-lines names (accepted-names (c .text) (h .named)) (report (project c)) (report-known (Among names) (project c) (project-known (Among names) (project c) (subst (Known-records (Among names)) (tree .1) known)))
+  lines-spoken = same-lines ∙ Proved.lines-spoken (call c) given
 
   -- the records are the project's, and the edges those followed
   pub report-of : Report-of c r
-  unfolding spelled project-of
   report-of =
-      let h = passed (call c) given in
-      let tidy = spelled-tidy (name-at (names-of (c .text))) (c .kinds) (c .words) in
       record {
-        written = whole-project (records c) tidy (h .tree) .1;
-        node = λ i n e. node-parts (records c) tidy (h .tree) i ∙ ap part-of e;
+        blank = λ b. (blank-spelled (c .kinds) (c .words) (c .text) b, blank-project (c .kinds) (c .words) (c .text) b);
+        written = Proved.written (call c) given;
+        node = Proved.lent-part (call c) given;
         edges = counted (room (c .lines)) (project c) (r .count) (r .edges) (answer-report (c .kinds) (c .words) (c .text) (length (c .work)) (room (c .lines)) (r .count) (r .edges) answered);
       }
 
@@ -150,6 +135,20 @@ unused-names c d r s e = (
   lines-spoken c r ∙ ap (λ (rs : List Rec). map spoken (report (project-read rs))) e ∙ sym (lines-spoken d s),
   report-of c r .edges ∙ ap (λ (rs : List Rec). followed (project-read rs)) e ∙ sym (report-of d s .edges),
 )
+
+-- a call without records, by the definition's answer
+pub no-records : No-records
+no-records c k v short enough =
+    let lent : ℕ = room (c .lines) in
+    record {
+      blank = λ t.
+          let is = blank-reported (c .kinds) (c .words) (c .text) (length (c .work)) lent k v short enough t in
+          let stored = blank-stored (c .kinds) (c .words) (c .text) (without-text (c .kinds) (c .words) (c .text) (length (c .work)) lent k v short enough t) in
+          let left = nothing-stored (c .kinds) (c .words) (c .text) (c .work) (c .lines) is stored in
+          (c .called .answered ∙ is, c .called .lines ∙ left .0, c .called .worked ∙ left .1);
+      names = λ t e. c .called .answered ∙ names-refused (c .kinds) (c .words) (c .text) (length (c .work)) lent k v short enough t e;
+      no-names = λ at e. c .called .answered ∙ no-names-refused (c .kinds) (c .words) (c .text) (length (c .work)) lent k v short enough at e;
+    }
 
 -- every number of a name is a name's, by the same
 pub no-stray : No-stray

@@ -1,23 +1,26 @@
 -- Demand 3, and demand 2's sentence on E0060, of the function `check`: what holds of all calls that it answers with a report. A line is read
 -- from the buffer after the call, six words a line, and a name in it counts as its text.
 -- Assumes nothing: these are definitions and statements, proved in proofs/.
-use Prim.Native.Nat.{ℕ, zero, suc}
+use Prim.Native.Nat.{ℕ, zero, suc, _≤_}
 use mathlib.Core.Path.{_≡_}
+use mathlib.Core.Bool.{true, false}
 use mathlib.Core.List.{List, [], _∷_, map, List·Memᴰ}
-use mathlib.Core.Option.{some}
+use mathlib.Core.Option.{none, some}
 use lib.Dec.{eqb}
-use lib.ListN.{getElem?}
+use lib.ListN.{length, getElem?, replicate}
 use Rattle.lustre.specs.Name.{Name}
-use Rattle.lustre.specs.Names.{names-of}
+use Rattle.lustre.specs.Names.{bad-name, names-of}
 use Rattle.lustre.specs.Records.{Rec}
 use Rattle.lustre.specs.Project.{Equation, Node, Function, Operator, Imported, Project, all-nodes}
 use Rattle.lustre.specs.Grammar.{flat-node, flat-project}
 use Rattle.lustre.specs.Walk.{rust-search}
 use Rattle.lustre.specs.Report.{followed}
-use Rattle.lustre.specs.Answer.{spelled, project-of, no-value}
+use Rattle.lustre.specs.Answer as Answer
+use Rattle.lustre.specs.Answer.{spelled, is-blank, project-of, no-value}
 use Rattle.lustre.specs.declared.Line.{Line}
 use Rattle.lustre.specs.declared.Answer.{Answer}
-use Rattle.lustre.specs.declared.Answer.the-variants.{Report}
+use Rattle.lustre.specs.declared.Answer.the-variants.{Report, Refused}
+use Rattle.lustre.specs.declared.Refusal.the-variants.{BadName, NoProject}
 use Rattle.demands.specs.Parts.{all, shown, node-part}
 use Rattle.demands.specs.Nodes.{keep}
 use Rattle.demands.specs.Loops.{Closed, Cyclic}
@@ -47,6 +50,10 @@ pub record Reported (c : Check) : Type 0 where
 abbrev pub records : Check → List Rec
 records c = spelled (c .kinds) (c .words) (c .text)
 
+-- the records that its project is read from: its own; a blank file has none, and counts as the records of a project without packages
+abbrev pub project-records : Check → List Rec
+project-records c = Answer.project-records (c .kinds) (c .words) (c .text)
+
 -- the project that they are
 abbrev pub project : Check → Project
 project c = project-of (c .kinds) (c .words) (c .text)
@@ -60,9 +67,11 @@ lines-in o k (suc n) = line-in o k ∷ lines-in o (suc k) n
 unfoldable pub lines-of : (c : Check) → Reported c → List Said
 lines-of c r = map (said (names-of (c .text))) (lines-in (c .lines-after) 0 (r .count))
 
--- What a report is about: the records are those of the project, node by node too, and the edges are those that the search follows.
+-- What a report is about: a blank file has no record, and its project no package; the records of any other are those of the project. Node by
+-- node they are its records too, and the edges are those that the search follows.
 pub record Report-of (c : Check) (r : Reported c) : Type 0 where
-  pub written : records c ≡ flat-project (project c) []
+  pub blank : is-blank (c .kinds) (c .text) ≡ true → (records c ≡ []) × (project c ≡ [])
+  pub written : is-blank (c .kinds) (c .text) ≡ false → records c ≡ flat-project (project c) []
   pub node : (i : ℕ) (n : Node) → getElem? (all-nodes (project c)) i ≡ some n → node-part i (records c) ≡ flat-node n []
   pub edges : r .edges ≡ followed (project c)
 
@@ -70,16 +79,29 @@ pub record Report-of (c : Check) (r : Reported c) : Type 0 where
 -- same, and each node that is equal throughout has the same lines in both.
 abbrev pub Demand-3 : Type 0
 Demand-3 = (c d : Check) (r : Reported c) (s : Reported d)
-    → shown all (records c) ≡ shown all (records d)
+    → shown all (project-records c) ≡ shown all (project-records d)
     → (about-no-node (lines-of c r) ≡ about-no-node (lines-of d s))
-    × ((i : ℕ) → node-part i (records c) ≡ node-part i (records d) → about i (lines-of c r) ≡ about i (lines-of d s))
+    × ((i : ℕ) → node-part i (project-records c) ≡ node-part i (project-records d) → about i (lines-of c r) ≡ about i (lines-of d s))
 
 -- Two editions of a model that differ only in unused names get equal lines, where both get a report (request 2.2). Their records are then
 -- equal with each name as its text, whatever its number; the number of edges followed is the same too.
 abbrev pub Unused-names : Type 0
 Unused-names = (c d : Check) (r : Reported c) (s : Reported d)
-    → records c ≡ records d
+    → project-records c ≡ project-records d
     → (lines-of c r ≡ lines-of d s) × (r .edges ≡ s .edges)
+
+-- What a call without records answers to a text, and what it leaves of the lines and the work memory, request 2.1. Without a text it is a report
+-- of no lines and no edges, the lines are as they were and the work memory is zero; with names it is refusal 5 at 0, and with a text that is
+-- no names refusal 3.
+pub record Without-records {L : Type 0} (text : List ℕ) (r : Answer) (lines lines′ : List L) (work work′ : List ℕ) : Type 0 where
+  pub blank : text ≡ [] → (r ≡ Report 0 0) × (lines′ ≡ lines) × (work′ ≡ replicate (length work) 0)
+  pub names : (text ≡ [] → ⊥) → bad-name text ≡ none → r ≡ Refused (NoProject 0)
+  pub no-names : (at : ℕ) → bad-name text ≡ some at → r ≡ Refused (BadName at)
+
+-- every call that refusals 1 and 2 let pass
+abbrev pub No-records : Type 0
+No-records = (c : Check) → c .kinds ≡ [] → c .words ≡ [] → length (c .text) ≤ 16384 → 4096 ≤ length (c .work)
+    → Without-records (c .text) (c .answer) (c .lines) (c .lines-after) (c .work) (c .work-after)
 
 -- no line has a number that is no name's
 abbrev pub No-stray : Type 0

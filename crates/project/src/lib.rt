@@ -21,6 +21,7 @@ ghost use Rattle.lustre.specs.Project.{skeleton, all-constants, all-nodes};
 ghost use Rattle.lustre.specs.Resolve.{context};
 ghost use Rattle.lustre.specs.Report.{constant-lines, nodes-lines, report as report-of, looks-all, followed};
 ghost use Rattle.lustre.specs.Answer.{reported};
+ghost use Rattle.lustre.specs.declared.Answer.the-variants.{Report};
 ghost use Rattle.scope.specs.Model.{Model};
 ghost use Rattle.scope.specs.Tables.{Declared};
 ghost use Rattle.scope.specs.Writes.{Reports};
@@ -165,6 +166,14 @@ fn judge(kinds: &[u8], words: &[u64], names: u64, work: &mut [u64], lines: &mut 
     Answer::MoreLines(r.n)
 }
 
+// The report on a blank file, a project without packages: no line and no edge. All work memory is zero after it.
+pub fn report_blank(work: &mut [u64]) -> Answer
+    ensures { λ r. ⌜ (r ≡ Report 0 0) × ((n : ℕ) → length (now (work .entry)) ≡ n → now (work .exit) ≡ replicate n 0) ⌝ }
+{
+    clear(work);
+    Answer::Report(0, 0)
+}
+
 // The check of a project: a report or one of eight refusals. `lines` has six words a line, in the order of the fields of `lustre::Line`.
 // Refusals 1 to 6 and 8 change nothing. After a report the lines are written, and after refusal 7 the first that fit; then all work memory is
 // zero.
@@ -179,6 +188,7 @@ pub fn check(
 {
     match check_input(kinds, words, text, work.len()) {
         Input::Accepted(names) => judge(kinds, words, names, work, lines),
+        Input::Blank => report_blank(work),
         Input::Refused(r) => Answer::Refused(r),
     }
 }

@@ -1,4 +1,4 @@
--- The laws of batches: refused input, accepted input, the first batch and the next.
+-- The laws of batches: answers without lines, accepted input, the first batch and the next.
 -- Assumes nothing.
 use Prim.Native.Nat.{ℕ, _+_, _-_, _/_, _^_, _≤_, _<_, min}
 use native.Mathlib.Omega.{arith}
@@ -13,12 +13,14 @@ use Rattle.lustre.specs.Names.{names-of}
 use Rattle.lustre.specs.Report.{report, followed}
 use Rattle.lustre.specs.Answer.{answer, reported, writes, project-of, stored, stored-report, work-after}
 use Rattle.lustre.specs.declared.Line.{Line}
+use Rattle.lustre.specs.declared.Answer.{Answer}
 use Rattle.lustre.specs.declared.Answer.the-variants.{Report, Refused, MoreLines}
 use Rattle.lustre.specs.declared.Refusal.{Refusal}
 use Rattle.input.specs.Input.{judged}
 use Rattle.input.specs.declared.Input.{Input}
 use Rattle.input.specs.declared.Input.the-variants as Answers
-use Rattle.input.proofs.Accepts.{accepts}
+use Rattle.lustre.proofs.Blank.{blank-stored}
+use Rattle.input.proofs.Accepts.{accepts, blank as blank-file}
 use Rattle.lines.specs.Lines.{line-in, room, puts}
 use Rattle.lines.proofs.Laws.{puts-reads, length-puts}
 use Rattle.scope.specs.Model.{Model}
@@ -29,10 +31,10 @@ use Rattle.project.proofs.Lines.{report-stored}
 use Rattle.nodes.specs.Nodes.{Blank}
 use Rattle.project.proofs.Nodes.{blank-front}
 use Rattle.project.proofs.Closed.{closed-count}
-use Rattle.project.proofs.Answers.{answer-accepted, answer-refused, count-is, aliases-accepted, work-accepted, reported-writes}
+use Rattle.project.proofs.Answers.{answer-accepted, answer-blank, answer-refused, count-is, aliases-accepted, work-accepted, reported-writes}
 use Rattle.staging.specs.declared.Batch.{Batch}
 use Rattle.staging.specs.Batches.{due, blank, Sums, Batched, Going}
-use Rattle.staging.specs.Steps.{refused-with, fitting, overfull, counted, Begun}
+use Rattle.staging.specs.Steps.{no-lines, fitting, overfull, counted, Begun}
 
 -- ---- what is due and what the work memory is, by whether lines are written
 module _ (ks ws text : List ℕ) where
@@ -59,26 +61,55 @@ module _ (ks ws text : List ℕ) (work space : ℕ) (i : Input) (r : Refusal) (j
   refused-due : length (due ks ws text work space) ≡ 0
   refused-due = ap length (due-if ks ws text work space false refused-writes)
 
--- the batch of refused input stands in the work memory as it was
-pub refused-batched : (ks ws text lent : List ℕ) (space : ℕ) (i : Input) (r : Refusal) (b : Batch) → i ≡ judged ks ws text (length lent) → i ≡ Answers.Refused r
-    → b ≡ refused-with r → Batched ks ws text lent space b lent × (b .at ≡ 0)
-refused-batched ks ws text lent space i r b j e eb =
-    let is = refused-answer ks ws text (length lent) space i r j e in
-    subst (λ (c : Batch). Batched ks ws text lent space c lent × (c .at ≡ 0)) (sym eb) (
+-- ---- a blank file
+module _ (ks ws text : List ℕ) (work space : ℕ) (j : judged ks ws text work ≡ Answers.Blank) where
+  -- its lines are written, of which there are none
+  blank-writes : writes (answer ks ws text work space) ≡ true
+  unfolding writes
+  blank-writes = ap writes (answer-blank ks ws text work space j)
+
+  -- no line is due
+  blank-due : length (due ks ws text work space) ≡ 0
+  blank-due =
+      ap length (due-if ks ws text work space true blank-writes ∙ ap (take space) (blank-stored ks ws text (blank-file ks ws text work j .1)))
+      ∙ length-take space [] ∙ omega arith
+
+-- ---- answers without lines
+
+-- the batch of an answer a that no line is due of stands in the work memory that the call leaves
+no-lines-batched : (ks ws text lent w : List ℕ) (space : ℕ) (a : Answer) (b : Batch) → answer ks ws text (length lent) space ≡ a
+    → length (due ks ws text (length lent) space) ≡ 0 → work-after ks ws text space lent ≡ w → b ≡ no-lines a → Batched ks ws text lent space b w × (b .at ≡ 0)
+no-lines-batched ks ws text lent w space a b is none left eb =
+    subst (λ (c : Batch). Batched ks ws text lent space c w × (c .at ≡ 0)) (sym eb) (
       record {
-        sums = record {
-          answered = sym is;
-          goal = sym (refused-due ks ws text (length lent) space i r j e);
-          names = λ h. absurd (omega arith);
-        };
+        sums = record { answered = sym is; goal = sym none; names = λ h. absurd (omega arith) };
         within = omega arith;
         some = λ h. absurd (omega arith);
         fits = omega arith;
         lines = λ k h. absurd (omega arith);
-        done = λ _. sym (work-if ks ws text lent space false (refused-writes ks ws text (length lent) space i r j e));
+        done = λ _. sym left;
       },
       refl,
     )
+
+-- that of refused input, in the work memory as it was
+pub refused-batched : (ks ws text lent : List ℕ) (space : ℕ) (i : Input) (r : Refusal) (b : Batch) → i ≡ judged ks ws text (length lent) → i ≡ Answers.Refused r
+    → b ≡ no-lines (Refused r) → Batched ks ws text lent space b lent × (b .at ≡ 0)
+refused-batched ks ws text lent space i r b j e =
+    no-lines-batched ks ws text lent lent space (Refused r) b
+    (refused-answer ks ws text (length lent) space i r j e)
+    (refused-due ks ws text (length lent) space i r j e)
+    (work-if ks ws text lent space false (refused-writes ks ws text (length lent) space i r j e))
+
+-- and that of a blank file, in the cleared one
+pub blank-batched : (ks ws text lent w : List ℕ) (space : ℕ) (i : Input) (a : Answer) (b : Batch) → i ≡ judged ks ws text (length lent) → i ≡ Answers.Blank
+    → (a ≡ Report 0 0) × ((n : ℕ) → length lent ≡ n → w ≡ replicate n 0) → b ≡ no-lines a → Batched ks ws text lent space b w × (b .at ≡ 0)
+blank-batched ks ws text lent w space i a b j e h =
+    let is = sym j ∙ e in
+    no-lines-batched ks ws text lent w space a b
+    (answer-blank ks ws text (length lent) space is ∙ sym (h .0))
+    (blank-due ks ws text (length lent) space is)
+    (work-if ks ws text lent space true (blank-writes ks ws text (length lent) space is) ∙ sym (h .1 (length lent) refl))
 
 -- ---- accepted input
 
@@ -88,6 +119,7 @@ accepted-of ks ws text work space h = go (judged ks ws text work) refl
   where
     go : (i : Input) → judged ks ws text work ≡ i → (n : ℕ) × (judged ks ws text work ≡ Answers.Accepted n)
     go (Answers.Accepted n) j = (n, j)
+    go Answers.Blank j = absurd (omega (arith, h, blank-due ks ws text work space j))
     go (Answers.Refused r) j = absurd (omega (arith, h, refused-due ks ws text work space (Answers.Refused r) r (sym j) refl))
 
 module _ (ks ws text lent : List ℕ) (space n : ℕ) (e : judged ks ws text (length lent) ≡ Answers.Accepted n) where

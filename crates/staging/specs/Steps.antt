@@ -5,15 +5,15 @@ use mathlib.Core.Path.{_≡_}
 use mathlib.Core.List.{List}
 use lib.ListN.{length, replicate}
 use Rattle.lustre.specs.Report.{report, followed}
-use Rattle.lustre.specs.declared.Answer.the-variants.{Report, Refused, MoreLines}
-use Rattle.lustre.specs.declared.Refusal.{Refusal}
+use Rattle.lustre.specs.declared.Answer.{Answer}
+use Rattle.lustre.specs.declared.Answer.the-variants.{Report, MoreLines}
 use Rattle.scope.specs.Model.{Model}
 use Rattle.scope.specs.Writes.{Reports}
 use Rattle.staging.specs.declared.Batch.{Batch}
 
--- refused input: no line is due
-abbrev pub refused-with : Refusal → Batch
-refused-with r = record { answer = Refused r; names = 0; goal = 0; at = 0; count = 0 }
+-- an answer without lines: none is due
+abbrev pub no-lines : Answer → Batch
+no-lines a = record { answer = a; names = 0; goal = 0; at = 0; count = 0 }
 
 -- n lines that fit
 abbrev pub fitting : ℕ → ℕ → ℕ → Batch

@@ -6,15 +6,15 @@
 use input::Input;
 use input::check_input;
 use lustre::Answer;
-use lustre::Refusal;
 use project::clear;
 use project::report;
+use project::report_blank;
 ghost use mathlib.Core.Path.{_≡_};
 ghost use Prim.Native.Nat.{_+_, _^_, _<_, _≤_};
 ghost use Rattle.scope.specs.Model.{Model};
 ghost use Rattle.tables.specs.Entered.{Aliases-below};
 ghost use Rattle.staging.specs.Batches.{Batched, Going};
-ghost use Rattle.staging.specs.Steps.{refused-with, fitting, overfull, counted, Begun};
+ghost use Rattle.staging.specs.Steps.{no-lines, fitting, overfull, counted, Begun};
 
 // Words of the graph that a pass is lent: eight for each of 512 names. The work memory holds lines meanwhile, so the graph is a local.
 const GRAPH: usize = 4096;
@@ -29,12 +29,12 @@ pub struct Batch {
     pub count: usize,
 }
 
-// The batch of refused input: no line is due.
-fn refuse(r: Refusal) -> Batch
-    ensures { λ b. ⌜ b ≡ refused-with r ⌝ }
+// The batch of an answer without lines: none is due.
+fn no_lines(answer: Answer) -> Batch
+    ensures { λ b. ⌜ b ≡ no-lines answer ⌝ }
 {
     Batch {
-        answer: Answer::Refused(r),
+        answer,
         names: 0,
         goal: 0,
         at: 0,
@@ -97,14 +97,15 @@ fn begin(kinds: &[u8], words: &[u64], names: u64, work: &mut [u64], room: usize)
     count(b, work.len())
 }
 
-// The first batch: a refusal of what is lent, or the first lines of the report.
+// The first batch: a refusal of what is lent, the report without lines on a blank file, or the first lines of the report.
 pub fn first_batch(kinds: &[u8], words: &[u64], text: &[u8], work: &mut [u64], room: usize) -> Batch
     requires { ⌜ room < 2 ^ 63 ⌝ }
     ensures { λ r. ⌜ Batched (now (kinds .entry)) (now (words .entry)) (now (text .entry)) (now (work .entry)) room r (now (work .exit)) × (r .at ≡ 0) ⌝ }
 {
     match check_input(kinds, words, text, work.len()) {
         Input::Accepted(names) => begin(kinds, words, names, work, room),
-        Input::Refused(r) => refuse(r),
+        Input::Blank => no_lines(report_blank(work)),
+        Input::Refused(r) => no_lines(Answer::Refused(r)),
     }
 }
 

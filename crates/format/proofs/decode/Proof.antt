@@ -1,7 +1,7 @@
 -- `format::decode` meets its contract: the file is wrong, has more words than are lent, or its words are stored. Assumes nothing.
 use native.Mathlib.Omega.{arith}
 use borrow.Author.Needs.{needs}
-use lib.ListN.{length-take, length-drop}
+use lib.ListN.{length-drop}
 use Rattle.format.proofs.Files.{known, lost, decoded-lost, decoded-short, decoded-stored}
 use Rattle.format.proofs.decode.Statement.{statement}
 use Rattle.format.proofs.decode.Tie as tie
@@ -15,20 +15,16 @@ enum-known-n c = search needs
 returns : tie.Need-returns
 returns c = decoded-short (known _ _ _ _ (c .before .before .before .before .sizes .ensures) (c .before .before .n .given .1)) (omega arith)
 
-add-from : tie.Need-add-from
-add-from c = search needs
+add-behind : tie.Need-add-behind
+add-behind c = search needs
 
-sub-store-words : tie.Need-sub-store-words
-sub-store-words c = omega (arith, (known _ _ _ _ (c .before .before .before .before .sizes .ensures) (c .before .before .n .given .1)) .fits .whole)
-
-part-store-words-start : tie.Need-part-store-words-start
-part-store-words-start c = omega (arith, (known _ _ _ _ (c .before .before .before .before .sizes .ensures) (c .before .before .n .given .1)) .fits .whole)
-
-part-store-words-end : tie.Need-part-store-words-end
-part-store-words-end c = search needs
+behind-requires : tie.Need-behind-requires
+behind-requires c κs = search needs
 
 store-words-requires : tie.Need-store-words-requires
-store-words-requires c κs = let k = known _ _ _ _ (c .before .before .before .before .before .before .sizes .ensures) (c .before .before .before .before .n .given .1) in (omega (arith, k .fits .few), simp (length-take, length-drop) (omega (arith, k .fits .whole)), omega arith)
+store-words-requires c κs =
+    let k = known _ _ _ _ (c .before .before .before .before .before .before .sizes .ensures) (c .before .before .before .before .n .given .1) in
+    (omega (arith, k .few), rw (c .before .behind .ensures, length-drop) (omega (arith, k .behind)), omega arith)
 
 enum-told : tie.Need-enum-told
 enum-told c = search needs
@@ -37,7 +33,9 @@ same-length : tie.Need-same-length
 same-length c = search needs
 
 returns-2 : tie.Need-returns-2
-returns-2 c = decoded-stored (known _ _ _ _ (c .before .before .before .before .before .before .before .before .before .sizes .ensures) (c .before .before .before .before .before .before .before .n .given .1)) (omega arith) (c .before .before .store-words .ensures)
+returns-2 c =
+    decoded-stored (known _ _ _ _ (c .before .before .before .before .before .before .before .before .before .sizes .ensures) (c .before .before .before .before .before .before .before .n .given .1)) (omega arith)
+    (c .before .before .before .before .behind .ensures) (c .before .before .store-words .ensures)
 
 returns-3 : tie.Need-returns-3
 returns-3 c = decoded-lost (lost _ _ (c .before .before .sizes .ensures) (c .enum-told .given .1))
@@ -49,10 +47,8 @@ decode-spec =
     sizes-requires
     enum-known-n
     returns
-    add-from
-    sub-store-words
-    part-store-words-start
-    part-store-words-end
+    add-behind
+    behind-requires
     store-words-requires
     enum-told
     same-length

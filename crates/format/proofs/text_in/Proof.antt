@@ -1,7 +1,7 @@
 -- `format::text_in` meets its contract: the last part of the file, or nothing. Assumes nothing.
 use native.Mathlib.Omega.{arith}
 use borrow.Author.Needs.{needs}
-use Rattle.format.proofs.Files.{known, lost, text-known, text-lost}
+use Rattle.format.proofs.Files.{known, lost, text-count, text-known, text-lost}
 use Rattle.format.proofs.text_in.Statement.{statement}
 use Rattle.format.proofs.text_in.Tie as tie
 
@@ -11,14 +11,21 @@ sizes-requires c κs = search needs
 enum-known-n : tie.Need-enum-known-n
 enum-known-n c = search needs
 
-mul-from : tie.Need-mul-from
-mul-from c = omega (arith, (known _ _ _ _ (c .before .before .before .sizes .ensures) (c .before .n .given .1)) .fits .few)
+mul-behind : tie.Need-mul-behind
+mul-behind c = omega (arith, (known _ _ _ _ (c .before .before .before .sizes .ensures) (c .before .n .given .1)) .few)
 
-add-from : tie.Need-add-from
-add-from c = omega (arith, (known _ _ _ _ (c .before .before .before .sizes .ensures) (c .before .n .given .1)) .fits .few)
+add-behind : tie.Need-add-behind
+add-behind c = omega (arith, (known _ _ _ _ (c .before .before .before .sizes .ensures) (c .before .n .given .1)) .few)
 
-add-end : tie.Need-add-end
-add-end c = let k = known _ _ _ _ (c .before .before .before .sizes .ensures) (c .before .n .given .1) in omega (arith, k .fits .few, k .fits .short)
+behind-requires : tie.Need-behind-requires
+behind-requires c κs = search needs
+
+slice-aggregate-result : tie.Need-slice-aggregate-result
+slice-aggregate-result c =
+    text-count (known _ _ _ _ (c .before .before .before .before .before .sizes .ensures) (c .before .before .before .n .given .1)) (c .before .behind .ensures)
+
+enum-told : tie.Need-enum-told
+enum-told c = search needs
 
 sub-result : tie.Need-sub-result
 sub-result c = search needs
@@ -27,22 +34,10 @@ part-result-start : tie.Need-part-result-start
 part-result-start c = search needs
 
 part-result-end : tie.Need-part-result-end
-part-result-end c = omega (arith, (known _ _ _ _ (c .before .before .before .sizes .ensures) (c .before .n .given .1)) .fits .whole)
-
-enum-told : tie.Need-enum-told
-enum-told c = search needs
-
-sub-result-2 : tie.Need-sub-result-2
-sub-result-2 c = search needs
-
-part-result-start-2 : tie.Need-part-result-start-2
-part-result-start-2 c = search needs
-
-part-result-end-2 : tie.Need-part-result-end-2
-part-result-end-2 c = search needs
+part-result-end c = search needs
 
 returns : tie.Need-returns
-returns c = text-known (known _ _ _ _ (c .before .before .before .before .sizes .ensures) (c .before .before .n .given .1))
+returns c = text-known (known _ _ _ _ (c .before .before .before .before .before .sizes .ensures) (c .before .before .before .n .given .1)) (c .before .behind .ensures)
 
 returns-2 : tie.Need-returns-2
 returns-2 c = text-lost (lost _ _ (c .before .before .before .sizes .ensures) (c .before .enum-told .given .1))
@@ -53,15 +48,13 @@ text-in-spec =
     (tie.spec
     sizes-requires
     enum-known-n
-    mul-from
-    add-from
-    add-end
+    mul-behind
+    add-behind
+    behind-requires
+    slice-aggregate-result
+    enum-told
     sub-result
     part-result-start
     part-result-end
-    enum-told
-    sub-result-2
-    part-result-start-2
-    part-result-end-2
     returns
     returns-2)

@@ -61,6 +61,9 @@ fn json(model: &Model, report: &Report) -> String {
 
 /// A model in the file format: record count and text length, kinds, words, text.
 fn from_file(bytes: &[u8]) -> Result<Model, String> {
+    if bytes.is_empty() {
+        return Ok(Model { kinds: vec![], words: vec![], text: vec![] });
+    }
     let size = |at: usize| -> Result<usize, String> {
         let part = bytes.get(at..at + 4).ok_or("the file is too short")?;
         Ok(u32::from_le_bytes(part.try_into().unwrap()) as usize)

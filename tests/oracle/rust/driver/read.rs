@@ -31,12 +31,15 @@ pub fn names_of(text: &[u8]) -> Read<Vec<String>> {
     Ok(names)
 }
 
-/// The project that the records form, with `names` as the texts of the name numbers. Fails outside
-/// the domain.
+/// The project that the records form, with `names` as the texts of the name numbers; no records and no
+/// text are a project without packages. Fails outside the domain.
 pub fn read(model: &Model, names: &[String]) -> Read<Project> {
     let sizes = model.kinds.len() == model.words.len();
     if !sizes || model.kinds.len() > MOST_RECORDS || model.text.len() > MOST_TEXT {
         return Err("sizes".into());
+    }
+    if model.kinds.is_empty() && model.text.is_empty() {
+        return Ok(Project { packages: vec![] });
     }
     let mut r = Reader { model, names, at: 0 };
     let packages = r.count(1)?;
