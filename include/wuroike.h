@@ -86,7 +86,7 @@ enum wuroike_answer {
  *
  * Stack: proofs don't speak of it, so these are measured peaks of the call, in bytes (docs/PERFORMANCE.md). 60 levels of expression, the
  * deepest accepted: 976,280 (a fold with a seed), 910,200 (a fold without), 558,120 (if), less for all else. 4,096 nested records, which
- * are refused once all are read: 720,088. A path of 512 names: 108,976. A clean model: 61,736. Give a thread 1,200,000.
+ * are refused once all are read: 720,184. A path of 512 names: 108,976. A clean model: 61,736. Give a thread 1,200,000.
  * Static memory: none is written.
  */
 uint64_t wuroike_check(const uint8_t *kinds, size_t kinds_length, const uint64_t *words, size_t words_length, const uint8_t *text,

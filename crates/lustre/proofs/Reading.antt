@@ -198,6 +198,8 @@ readings =
     ∷ (flattened (project-records [] [] []), flattened (numbered-rec 1 0 ∷ []))
     ∷ (tree (project-of [] [] []), tree [])
     ∷ (tree (project-of (1 ∷ []) (0 ∷ []) []), tree [])
+    -- the two are a pair of demand 3 and, with names that nothing uses, one of `Unused-names`
+    ∷ (flattened (project-records [] [] []), flattened (project-records (1 ∷ []) (0 ∷ []) letters))
     -- no records with a text, and records without one, are not blank
     ∷ (flattened (project-records [] [] letters), flattened [])
     ∷ (flattened (project-records (3 ∷ []) (0 ∷ []) []), flattened (numbered-rec 3 0 ∷ []))
