@@ -5,12 +5,12 @@
 use Prim.Native.Nat.{ℕ, _≤_}
 use native.Mathlib.Omega.{arith}
 use mathlib.Core.Path.{_≡_, refl, ap, sym, _∙_}
-use mathlib.Core.Bool.{Bool, true, false, and-eq-true-iff}
+use mathlib.Core.Bool.{Bool, true, false, _&&_, true≢false}
 use mathlib.Core.List.{List, [], _∷_}
 use mathlib.Core.Option.{none, some}
 use lib.Dec.{eqb}
 use lib.ListN.{length}
-use borrow.Author.Tests.{eqb-true, ne-eqb, le-leb}
+use borrow.Author.Tests.{ne-eqb, le-leb}
 use Rattle.lustre.specs.Name.{if_then_else_}
 use Rattle.lustre.specs.Names.{bad-name, names-of}
 use Rattle.lustre.specs.Records.{Rec, bad-record, spell}
@@ -21,10 +21,23 @@ use Rattle.lustre.specs.declared.Answer.the-variants.{Report, Refused}
 use Rattle.lustre.specs.declared.Refusal.the-variants.{BadName, NoProject, TooDeep}
 use Rattle.lustre.proofs.Lowest.{sizes-pass, work-passes}
 
--- a list of length 0
-empty : (l : List ℕ) → length l ≡ 0 → l ≡ []
-empty [] e = refl
-empty (x ∷ l) e = absurd (omega arith)
+-- the length of what is not empty is not 0
+some-length : (c : ℕ) (cs : List ℕ) → eqb (length (c ∷ cs)) 0 ≡ false
+some-length c cs = ne-eqb (length (c ∷ cs)) 0 (λ e. omega arith)
+
+-- a blank file has no kinds and no text
+nothing-lent : (kinds text : List ℕ) → is-blank kinds text ≡ true → (kinds ≡ []) × (text ≡ [])
+unfolding is-blank
+nothing-lent [] [] b = (refl, refl)
+nothing-lent [] (c ∷ cs) b = absurd (true≢false (sym b ∙ some-length c cs))
+nothing-lent (k ∷ ks) text b = absurd (true≢false (sym b ∙ ap (λ t. t && eqb (length text) 0) (some-length k ks)))
+
+-- one with a text is not blank
+text-lent : (kinds text : List ℕ) → (text ≡ [] → ⊥) → is-blank kinds text ≡ false
+unfolding is-blank
+text-lent kinds [] t = absurd (t refl)
+text-lent [] (c ∷ cs) t = some-length c cs
+text-lent (k ∷ ks) (c ∷ cs) t = rw (some-length k ks)
 
 -- no refusal after 2 applies where there are no kinds and there is no text
 after-2 : (words : List ℕ)
@@ -58,30 +71,20 @@ module _ (kinds words text : List ℕ) where
       go false = s
 
   module _ (b : is-blank kinds text ≡ true) where
-    -- no kinds
-    pub blank-kinds : kinds ≡ []
-    unfolding is-blank
-    blank-kinds = empty kinds (eqb-true (length kinds) 0 (and-eq-true-iff (eqb (length kinds) 0) (eqb (length text) 0) .0 b .0))
-
-    -- and no text
-    pub blank-text : text ≡ []
-    unfolding is-blank
-    blank-text = empty text (eqb-true (length text) 0 (and-eq-true-iff (eqb (length kinds) 0) (eqb (length text) 0) .0 b .1))
-
     -- it has no record
     pub blank-spelled : spelled kinds words text ≡ []
     unfolding spelled spell
-    blank-spelled = rw blank-kinds
+    blank-spelled = rw (nothing-lent kinds text b .0)
 
     -- its project has no package
     pub blank-project : project-of kinds words text ≡ []
     unfolding computes
-    blank-project = rw (blank-kinds, blank-text)
+    blank-project = let none = nothing-lent kinds text b in rw (none .0, none .1)
 
     -- no refusal after 2 applies to it
     pub blank-passes : (work : ℕ) → bad-sizes kinds words text ≡ none → short-work work ≡ none → lowest kinds words text work ≡ none
     unfolding lowest refuse
-    blank-passes work sizes enough = rw (sizes, refuse, enough, refuse, blank-kinds, blank-text) (after-2 words)
+    blank-passes work sizes enough = let none = nothing-lent kinds text b in rw (sizes, refuse, enough, refuse, none .0, none .1) (after-2 words)
 
     -- where none applies it gets a report without lines and edges
     pub blank-answer : (work room : ℕ) → lowest kinds words text work ≡ none → answer kinds words text work room ≡ Report 0 0
@@ -112,10 +115,10 @@ module _ (kinds words text : List ℕ) (work room : ℕ) (k : kinds ≡ []) (v :
   unfolding answer unless-refused lowest refuse
   no-names-refused at e = rw (sizes, refuse, work-passes work enough, refuse, e)
 
-  -- with a text it is not blank, and there is nothing to read
+  -- with a text there is nothing to read
   with-text : (text ≡ [] → ⊥) → no-project (project-records kinds words text) ≡ some 0
-  unfolding project-records computes
-  with-text t = rw (k, ne-eqb (length text) 0 (λ z. t (empty text z)))
+  unfolding no-project computes
+  with-text t = rw (read-as-lent kinds words text (text-lent kinds text t), k)
 
   -- no record is bad
   none-bad : bad-record (length (names-of text)) 0 kinds words ≡ none

@@ -81,7 +81,7 @@ no-project rs = place-in (length rs) (whole (read-project rs))
 unfoldable pub too-deep-at : List Rec → Option ℕ
 too-deep-at rs = deep-record ((one a-project, 1) ∷ []) 0 rs
 
--- the project that the records are; the empty one where they are none
+-- the project that was read; the empty one where none was
 unfoldable pub project-in : Got Project → Project
 project-in (got P rest) = P
 project-in (stuck rest) = []
