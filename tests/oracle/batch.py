@@ -64,6 +64,18 @@ def decoded(file, work):
     return DECODER.judge(*told, work) if told else "refused 1 at 0"
 
 
+def nodes(file):
+    """The kind of each node of a file, and whether an arrow stands in it, by kinds alone."""
+    found, inside = [], False
+    for kind in parts(file)[0]:
+        if kind in (2, 10, 11, 12):
+            inside = kind != 2
+            found += [(kind, False)] if inside else []
+        elif kind == 69 and inside:
+            found[-1] = (found[-1][0], True)
+    return found
+
+
 def frame(file, work=WORK, room=ROOM):
     """A model of a stream."""
     return struct.pack("<III", work, room, len(file)) + file

@@ -50,8 +50,13 @@ CASES = [
     (operator("a b", [("a", "44 b"), ("b", "44 a")]), 2,
      ["E0060 node 0 - 0 a", "E0060 node 0 - 1 b", "E0060 node 0 - 2 a"]),
     (operator("x", [("x", "44 x")]), 1, ["E0060 node 0 - 0 x", "E0060 node 0 - 1 x"]),
-    (operator("x", [("x", "44 x")], kind=10), 0, []),
-    (operator("x", [("x", "69, 41 0, 44 x")]), 0, []),
+    # request 2.6: a function is searched, and the body of an arrow is read, but not what stands under pre
+    (operator("x", [("x", "44 x")], kind=10), 1, ["E0060 node 0 - 0 x", "E0060 node 0 - 1 x"]),
+    (operator("x", [("x", "69, 41 0, 44 x")]), 1, ["E0060 node 0 - 0 x", "E0060 node 0 - 1 x"]),
+    (operator("x", [("x", "69, 41 0, 68, 44 x")]), 0, []),
+    # the body's edge to a smaller name is taken first
+    (operator("a b c", [("a", "69, 44 c, 44 b"), ("b", "44 a"), ("c", "44 a")]), 2,
+     ["E0060 node 0 - 0 a", "E0060 node 0 - 1 b", "E0060 node 0 - 2 a"]),
     # 0 -> pre pre a: the inner; 0 -> pre (0 -> pre a): none
     (operator("a", [("a", "69, 41 0, 68, 68, 44 a")]), 0, ["E0070 node 0 0 3 -"]),
     (operator("a", [("a", "69, 41 0, 68, 69, 41 0, 68, 44 a")]), 0, []),
@@ -90,9 +95,9 @@ CASES = [
     # unused local
     (operator("x y", [("x", "41 0")]), 0, ["W0051 node 0 - - y"]),
     # nested iterators: each is reported once and typed once, so lines grow by one a level
-    (nested(1), 1, ["E0145 node 1 0 0 -"]),
-    (nested(2), 1, ["E0146 node 1 0 2 -", "E0145 node 1 0 2 -"]),
-    (nested(3), 1, ["E0146 node 1 0 2 -", "E0146 node 1 0 4 -", "E0145 node 1 0 4 -"]),
+    (nested(1), 2, ["E0145 node 1 0 0 -"]),
+    (nested(2), 2, ["E0146 node 1 0 2 -", "E0145 node 1 0 2 -"]),
+    (nested(3), 2, ["E0146 node 1 0 2 -", "E0146 node 1 0 4 -", "E0145 node 1 0 4 -"]),
 ]
 
 

@@ -1,9 +1,11 @@
 #!/usr/bin/env python3
-"""mark.py LIB MARKED: makes the marked copy of the checker out of its source file.
+"""mark.py LIB MARKED AMENDED: makes the marked copy of the checker out of its source file, and the amended one.
 
 Every `diags.push(..)` becomes `diags.push_marked(..)`, and five places say which declaration or
 which expression is at hand (rust/mark.rs). Nothing else changes, no line moves, and the driver
 asserts on every model that the copy gives the diagnostics of the unchanged source.
+The amended copy is the marked one with the requests of document 02 that change a report. The driver
+asserts on every model that the two differ in nothing but what a request lets differ.
 """
 import sys
 
@@ -30,25 +32,39 @@ ENTRIES = [
     ("        e.visit(|x| {\n", "        e.visit(|x| { let _r = mark::rule(x);\n"),
 ]
 
+# request 2.6: the body of an arrow is read in the same instant, and functions are searched
+AMENDMENTS = [
+    ("        Expr::Arrow { init, .. } => collect_immediate_deps(init, out),\n",
+     "        Expr::Arrow { init, body } => { collect_immediate_deps(init, out); collect_immediate_deps(body, out) }\n"),
+    ("    if !node.is_function() {\n        if let Some(cycle) = detect_combinational_cycle(node) {\n",
+     "    {\n        if let Some(cycle) = detect_combinational_cycle(node) {\n"),
+]
+
+
+def replaced(text, entries):
+    """The text with each entry's first part, which occurs once, replaced by its second."""
+    for old, new in entries:
+        if text.count(old) != 1:
+            raise SystemExit(f"mark.py: not exactly once in the source: {old!r}")
+        text = text.replace(old, new)
+    return text
+
 
 def marked(text):
     pushes = text.count("diags.push(")
     made = text.count("Diagnostic::error(") + text.count("Diagnostic::warning(")
     if pushes == 0 or pushes != made:
         raise SystemExit(f"mark.py: {pushes} pushes, {made} diagnostics made")
-    for old, new in ENTRIES:
-        if text.count(old) != 1:
-            raise SystemExit(f"mark.py: not exactly once in the source: {old!r}")
-        text = text.replace(old, new)
-    return text.replace("diags.push(", "diags.push_marked(") + "\nmod mark;\nuse mark::Marked;\n"
+    return replaced(text, ENTRIES).replace("diags.push(", "diags.push_marked(") + "\nmod mark;\nuse mark::Marked;\n"
 
 
 def main():
-    source, target = sys.argv[1:]
+    source, plain, amended = sys.argv[1:]
     with open(source, encoding="utf-8") as f:
-        text = f.read()
-    with open(target, "w", encoding="utf-8") as f:
-        f.write(marked(text))
+        text = marked(f.read())
+    for target, copy in ((plain, text), (amended, replaced(text, AMENDMENTS))):
+        with open(target, "w", encoding="utf-8") as f:
+            f.write(copy)
 
 
 main()

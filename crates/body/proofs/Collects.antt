@@ -1,7 +1,6 @@
 -- The walk of `immediate_reads`: what each record does to the set of names, and to the names that are still to be read.
 -- Assumes nothing.
-use Prim.Native.Nat.{ℕ, _+_, _-_, _≤_, _<_}
-use native.Mathlib.Omega.{arith}
+use Prim.Native.Nat.{ℕ, _+_, _-_, _<_}
 use mathlib.Core.Path.{_≡_, refl, sym, subst, _∙_}
 use mathlib.Core.Bool.{true, _||_, or-assoc, or-false}
 use mathlib.Core.Logic.{⊎-elim}
@@ -10,7 +9,7 @@ use lib.Dec.{eqb}
 use lib.ListN.{length, getD}
 use borrow.Author.Tests.{eqb-true, eqb-false}
 use Rattle.lustre.specs.Name.{Name, if_then_else_, _is_, _among_, mem}
-use Rattle.lustre.specs.Expr.{Expr, size}
+use Rattle.lustre.specs.Expr.{Expr, size, pre}
 use Rattle.lustre.specs.Deps.{reads}
 use Rattle.demands.proofs.Sets.{split, mustnt, mem-eq, mem-ne}
 use Rattle.demands.proofs.Orders.{is-test}
@@ -18,11 +17,10 @@ use Rattle.loops.specs.Rows.{has, Connected}
 use Rattle.standing.specs.Standing.{Source, source, word, Expr-at}
 use Rattle.standing.specs.Owed.{owes, There}
 use Rattle.standing.proofs.Sizes.{expr-end}
-use Rattle.standing.proofs.Owed.{in-part, kind, Turn, turn}
+use Rattle.standing.proofs.Owed.{Part, of-expr, Part-at, in-part, kind, Turn, turn}
 use Rattle.body.specs.Body.{reading-kind, Alone, With-names, Collected}
 use Rattle.body.proofs.Told.{told, told-open, reads-part, read-here, reads-opens}
-use Rattle.body.proofs.Heads.{not-temporal}
-use Rattle.body.proofs.Walks.{Walk, walk-start, walk-first, walk-pre, walk-arrow, walk-done}
+use Rattle.body.proofs.Walks.{Walk, walk-start, walk-first, walk-pre, walk-done}
 
 -- among names after names
 among-append : (x : Name) (xs ys : List Name) → (x among (xs ++ ys)) ≡ ((x among xs) || (x among ys))
@@ -78,12 +76,13 @@ module _ (S : Source) (e : Expr) (at : ℕ) (row₀ : List ℕ) where
       pub unread-small : reading-kind (kind S next) ≡ true → word S next < 512
       unread-small = walk-first S reads-part (To-read row) w z .says .small
 
-      -- any other record is passed, and its name is added
-      pub unread-pass : {row′ : List ℕ} → (kind S next ≡ 68 → ⊥) → (kind S next ≡ 69 → ⊥)
+      -- a record that is no `pre` is passed, and its name is added
+      pub unread-pass : {row′ : List ℕ} → (kind S next ≡ 68 → ⊥)
           → With-names (S .text) (if reading-kind (kind S next) then S .text (word S next) ∷ [] else []) row row′ → Unread (next + 1) (left - 1 + owes (kind S next) (word S next)) row′
-      unread-pass h g c =
+      unfolding Expr-at
+      unread-pass h c =
           let f = walk-first S reads-part (To-read row) w z in
-          let t = sym (f .says .temporal) ∙ not-temporal (kind S next) h g in
+          let t : (a : Expr) → f .p ≡ of-expr (pre a) → ⊥ = λ a e. h (subst (λ (p : Part). Part-at S p next) e (f .p-at) .0 .kind) in
           let ys = told reads-part (next + 1) (in-part (f .p) ++ f .ps) in
           let r = rw (told-open reads-part next (f .p) (f .ps) (read-here (f .p)) (reads-opens (f .p) next t)) at (f .rest) in
           record { ps = in-part (f .p) ++ f .ps; owing = f .onward; rest = read-step (read-here (f .p)) ys r (rw (f .says .names) at c) }
@@ -100,21 +99,6 @@ module _ (S : Source) (e : Expr) (at : ℕ) (row₀ : List ℕ) where
           let f = walk-pre S reads-part (To-read row) w z h in
           record { a = f .a; a-at = f .a-at; after = record { ps = f .ps; owing = f .behind; rest = f .rest } }
 
-      -- an arrow reads what its initial side reads
-      pub record At-arrow : Type 0 where
-        pub a : Expr
-        pub b : Expr
-        pub a-at : Expr-at S a (next + 1)
-        pub b-at : Expr-at S b (next + 1 + size a)
-        pub after : {row′ : List ℕ} → With-names (S .text) (reads a) row row′ → Unread (next + 1 + size a + size b) (left - 1) row′
-
-      pub at-arrow : kind S next ≡ 69 → At-arrow
-      unfolding reads reads-part
-      at-arrow h =
-          let f = walk-arrow S reads-part (To-read row) w z h in
-          let ys = told reads-part (next + 1 + size (f .a) + size (f .b)) (f .ps) in
-          record { a = f .a; b = f .b; a-at = f .a-at; b-at = f .b-at; after = λ c. record { ps = f .ps; owing = f .behind; rest = read-step (reads (f .a)) ys (f .rest) c } }
-
 -- ---- the turns of the loop
 
 -- what a call of `immediate_reads`, and what a call of `skip` ensures
@@ -126,12 +110,11 @@ Skips ks ws at r = (g : There ks ws at) → r ≡ at + size (g .e)
 
 -- the loop's invariant
 pub record Collecting (ks ws : List ℕ) (at : ℕ) (row₀ : List ℕ) (next left : ℕ) (row : List ℕ) : Type 0 where
-  pub from : at ≤ next
   pub long : length row ≡ length row₀
   pub rest : (g : There ks ws at) → Unread (source ks ws (g .text)) (g .e) at row₀ next left row
 
 pub collecting-start : {ks ws : List ℕ} {at : ℕ} {row : List ℕ} → Collecting ks ws at row at 1 row
-collecting-start {at} {row} = record { from = omega arith; long = refl; rest = λ g. unread-start _ (g .e) at row (g .stands) }
+collecting-start {at} {row} = record { long = refl; rest = λ g. unread-start _ (g .e) at row (g .stands) }
 
 module _ {ks ws : List ℕ} {at : ℕ} {row₀ : List ℕ} {next left : ℕ} {row : List ℕ} (w : Collecting ks ws at row₀ next left row) where
   -- where nothing is owed the names are collected
@@ -146,11 +129,11 @@ module _ {ks ws : List ℕ} {at : ℕ} {row₀ : List ℕ} {next left : ℕ} {ro
     pub collecting-small : reading-kind (getD ks next 0) ≡ true → getD ws next 0 < 512
     collecting-small = unread-small _ (g₀ .e) at row₀ (w .rest g₀) z
 
-    -- a record that is neither `pre` nor arrow is passed
-    pub collecting-pass : {row′ : List ℕ} → (getD ks next 0 ≡ 68 → ⊥) → (getD ks next 0 ≡ 69 → ⊥)
+    -- a record that is no `pre` is passed
+    pub collecting-pass : {row′ : List ℕ} → (getD ks next 0 ≡ 68 → ⊥)
         → ((text : ℕ → Name) → With-names text (if reading-kind (getD ks next 0) then text (getD ws next 0) ∷ [] else []) row row′) → length row′ ≡ length row
         → Collecting ks ws at row₀ (next + 1) (left - 1 + owes (getD ks next 0) (getD ws next 0)) row′
-    collecting-pass h g c k = record { from = omega (arith, w .from); long = k ∙ w .long; rest = λ d. unread-pass _ (d .e) at row₀ (w .rest d) z h g (c (d .text)) }
+    collecting-pass h c k = record { long = k ∙ w .long; rest = λ d. unread-pass _ (d .e) at row₀ (w .rest d) z h (c (d .text)) }
 
     -- at a `pre` the walk goes on behind its argument
     module _ (h : getD ks next 0 ≡ 68) where
@@ -162,31 +145,6 @@ module _ {ks ws : List ℕ} {at : ℕ} {row₀ : List ℕ} {next left : ℕ} {ro
 
       pub after-pre : {r : ℕ} → Skips ks ws (next + 1) r → Collecting ks ws at row₀ r (left - 1) row
       after-pre c = record {
-        from = omega (arith, w .from, c pre-argument);
         long = w .long;
         rest = λ g. let x = pre-in g in rw (c (record { text = g .text; e = x .a; stands = x .a-at })) (x .after);
       }
-
-    -- at an arrow its initial side is read, and the walk goes on behind its body
-    module _ (h : getD ks next 0 ≡ 69) where
-      arrow-in : (g : There ks ws at) → At-arrow _ (g .e) at row₀ (w .rest g) z
-      arrow-in g = at-arrow _ (g .e) at row₀ (w .rest g) z h
-
-      pub arrow-initial : There ks ws (next + 1)
-      arrow-initial = let x = arrow-in g₀ in record { text = g₀ .text; e = x .a; stands = x .a-at }
-
-      module _ {a : ℕ} {row′ : List ℕ} (c : Collects ks ws (next + 1) row a row′) where
-        pub arrow-body : There ks ws a
-        unfolding arrow-initial
-        arrow-body = let x = arrow-in g₀ in record { text = g₀ .text; e = x .b; stands = rw (c arrow-initial .next) (x .b-at) }
-
-        pub after-arrow : {b : ℕ} → Skips ks ws a b → length row′ ≡ length row → Collecting ks ws at row₀ b (left - 1) row′
-        after-arrow d k = record {
-          from = omega (arith, w .from, c arrow-initial .next, d arrow-body);
-          long = k ∙ w .long;
-          rest = λ g.
-              let x = arrow-in g in
-              let y = c (record { text = g .text; e = x .a; stands = x .a-at }) in
-              let v = rw (y .next) at d in
-              rw (v (record { text = g .text; e = x .b; stands = x .b-at })) (x .after (y .names));
-        }

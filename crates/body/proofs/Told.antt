@@ -214,8 +214,8 @@ unfolding reads told reads-part
 reads-values []ⁱ at = refl
 reads-values (init x e vs) at = ap (λ (l : List Name). reads e ++ l) (reads-values vs (at + (1 + size e)))
 
-pub reads-opens : (p : Part) (at : ℕ) → is-temporal (part-form p) ≡ false → reads-part at p ≡ read-here p ++ told reads-part (at + 1) (in-part p)
-unfolding reads told reads-part form is-temporal head-names
+pub reads-opens : (p : Part) (at : ℕ) → ((a : Expr) → p ≡ of-expr (pre a) → ⊥) → reads-part at p ≡ read-here p ++ told reads-part (at + 1) (in-part p)
+unfolding reads told reads-part head-names
 reads-opens (of-type (basic b)) at h = refl
 reads-opens (of-type (Array n t)) at h = refl
 reads-opens (of-type (Named x)) at h = refl
@@ -227,8 +227,8 @@ reads-opens (of-expr (var x)) at h = refl
 reads-opens (of-expr (unary o a)) at h = simp append-nil
 reads-opens (of-expr (binary o a b)) at h = simp append-nil
 reads-opens (of-expr (ite c a b)) at h = simp (append-nil, append-assoc)
-reads-opens (of-expr (pre a)) at h = absurd (true≢false h)
-reads-opens (of-expr (arrow a b)) at h = absurd (true≢false h)
+reads-opens (of-expr (pre a)) at h = absurd (h a refl)
+reads-opens (of-expr (arrow a b)) at h = simp append-nil
 reads-opens (of-expr (call f es)) at h = simp append-nil
 reads-opens (of-expr (field x a)) at h = simp append-nil
 reads-opens (of-expr (index a b)) at h = simp append-nil

@@ -1,7 +1,7 @@
 // What is checked of an equation's right-hand side beside its type, each in one pass over its records: whether it has a temporal operator,
 // E0070, E0146, and the names that it reads in the same instant. Kinds and words are parts that start at the right-hand side, so that a
-// position is a step. A pass counts the parts still owed, as `standing::skip` does, and calls itself only where a part of a `pre` or an
-// arrow is judged otherwise than its surroundings: so it nests no deeper than the expression's 60 levels.
+// position is a step. A pass counts the parts still owed, as `standing::skip` does. That for E0070 calls itself where a part of a `pre` or
+// an arrow is judged otherwise than its surroundings: so it nests no deeper than the expression's 60 levels.
 use lines::Spot;
 use lines::put_line;
 use loops::connect;
@@ -171,7 +171,7 @@ fn note_read(kind: u8, word: u64, row: &mut [u64])
 }
 
 // Adds the names that the expression at a place reads in the same instant to the set `row`, a bit for each name, and returns the record
-// behind it: `collect_immediate_deps`, lib.rs 1534.
+// behind it: `collect_immediate_deps`, lib.rs 1534, and since request 2.6 the body of an arrow too.
 pub fn immediate_reads(kinds: &[u8], words: &[u64], at: usize, row: &mut [u64]) -> usize
     requires { ⌜ There (now kinds) (now words) at × (8 ≤ length (now row)) ⌝ }
     ensures { λ r. ⌜ ((g : There (now (kinds .entry)) (now (words .entry)) at) → Collected (g .text) (g .e) at (now (row .entry)) r (now (row .exit))) ⌝ }
@@ -182,12 +182,6 @@ pub fn immediate_reads(kinds: &[u8], words: &[u64], at: usize, row: &mut [u64]) 
         let kind = kinds[next];
         if kind == PRE {
             next = skip(kinds, words, next + 1);
-            left -= 1;
-            continue;
-        }
-        if kind == ARROW {
-            let body = immediate_reads(kinds, words, next + 1, row);
-            next = skip(kinds, words, body);
             left -= 1;
             continue;
         }

@@ -8,6 +8,7 @@ use mathlib.Core.List.{List, map, List·Memᴰ}
 use lib.ListN.{length, take, replicate, length-replicate}
 use lib.Seq.{take-nil}
 use Rattle.lustre.specs.Names.{names-of}
+use Rattle.lustre.specs.Project.{Equation}
 use Rattle.lustre.specs.Report.{report}
 use Rattle.lustre.specs.Answer.{answer, writes, over, lines-after, work-after}
 use Rattle.lustre.proofs.Blank.{blank-stored, without-text}
@@ -22,7 +23,7 @@ use Rattle.project.specs.Call.{buffer-after}
 use Rattle.project.specs.Demands as Words
 use Rattle.project.specs.Demands.{loop-lines}
 use Rattle.project.proofs.Demands as Words-proved
-use Rattle.checker.specs.Demands.{Check, Reported, project, lines-of, Reports, Demand-3, Unused-names, No-records, No-stray, Demand-2-loops}
+use Rattle.checker.specs.Demands.{Check, Reported, project, lines-of, Reports, Demand-3, Unused-names, No-records, No-stray, Searched-lines, Demand-2-loops}
 
 -- ---- the call as the definition has it
 
@@ -107,16 +108,21 @@ no-records c k v short enough =
       no-names = h .no-names;
     }
 
+-- what holds of a searched node on words holds of it here
+searched : (c : Check) (r : Reported c) (i : ℕ) (qs : List Equation) → Words.Searched-lines (on-words c) (reported c r) i qs → Searched-lines c r i qs
+searched c r i qs o =
+    let same = as-words c r in
+    record {
+      only-if = λ l m. o .only-if l (subst (λ (ls : List Said). List·Memᴰ l (about i ls)) same m);
+      if-so = λ y. let f = o .if-so y in (f .0, subst (λ (ls : List Said). List·Memᴰ (f .0) (about i ls)) (sym same) (f .1), f .2);
+      path = λ y. let f = o .path y in (f .0, f .1, ap (loop-lines i) same ∙ f .2, f .3);
+    }
+
 -- demand 2 on E0060
 pub demand-2-loops : Demand-2-loops
 demand-2-loops c r i n e =
-    let h = Words-proved.demand-2-loops (on-words c) (reported c r) i n e in
-    let same = as-words c r in (
-      λ k. let o = h .0 k in record {
-        only-if = λ l m. o .only-if l (subst (λ (ls : List Said). List·Memᴰ l (about i ls)) same m);
-        if-so = λ y. let f = o .if-so y in (f .0, subst (λ (ls : List Said). List·Memᴰ (f .0) (about i ls)) (sym same) (f .1), f .2);
-        path = λ y. let f = o .path y in (f .0, f .1, ap (loop-lines i) same ∙ f .2, f .3);
-      },
-      λ k. ap (loop-lines i) same ∙ h .1 k,
-      λ k. ap (loop-lines i) same ∙ h .2 k,
+    let h = Words-proved.demand-2-loops (on-words c) (reported c r) i n e in (
+      λ k. (searched c r i (n .equations) (h .0 k .0), λ a. ap (loop-lines i) (as-words c r) ∙ h .0 k .1 a),
+      λ k. searched c r i (n .equations) (h .1 k),
+      λ k. ap (loop-lines i) (as-words c r) ∙ h .2 k,
     )

@@ -9,12 +9,12 @@ use mathlib.Core.List.{List, [], _∷_, _++_, List·Memᴰ, List·Memᴰ·head, 
 use mathlib.Core.Option.{none, some}
 use lib.ListN.{length}
 use Rattle.lustre.specs.Name.{Name, _is_, _among_, set-of, if_then_else_}
-use Rattle.lustre.specs.Project.{Equation, Operator}
+use Rattle.lustre.specs.Project.{Equation}
 use Rattle.lustre.specs.Deps.{reads, defined, read-in, read-by, successors}
-use Rattle.lustre.specs.Walk.{path-of, graph-names, search, rust-search}
-use Rattle.lustre.specs.Node.{looks}
-use Rattle.demands.specs.Loops.{Edge, Along, Closed, Distinct, Edges}
+use Rattle.lustre.specs.Walk.{path-of, looks-of, graph-names, search, dfs-search, rust-search}
+use Rattle.demands.specs.Loops.{Edge, Along, Closed, Distinct, Edges, No-arrows}
 use Rattle.demands.proofs.Sets.{mem-in, in-mem}
+use Rattle.demands.proofs.Arrows.{same-equations}
 use Rattle.demands.proofs.Graphs.{Chain}
 use Rattle.demands.proofs.Orders.{is-test, in-set, set-in, set-distinct}
 use Rattle.demands.proofs.Search.{row, pairs, Walked, walked}
@@ -107,10 +107,15 @@ module _ (qs : List Equation) where
   unfolding search
   search-finds c k = searched .finds c (record { first = k .first; between = k .between; shape = k .shape; steps = along-chain (k .first) (k .between ++ (k .first ∷ [])) (k .steps) })
 
-  -- the Rust's search finds the same
-  pub search-rust : rust-search qs ≡ path-of (search qs)
-  unfolding search rust-search
-  search-rust = searched .rust
+  -- the Rust's `dfs` finds the same in the same graph
+  pub search-dfs : dfs-search qs ≡ path-of (search qs)
+  unfolding search dfs-search
+  search-dfs = searched .rust
+
+  -- and so does the Rust's search where its graph is the same
+  pub search-rust : No-arrows qs → rust-search qs ≡ path-of (search qs)
+  unfolding rust-search
+  search-rust h = rw (same-equations qs h) search-dfs
 
 -- two lists without repetition that have nothing in common, one behind the other
 distinct-append : {X : Type 0} (s t : List X) → Distinct s → Distinct t → ((x : X) → List·Memᴰ x s → List·Memᴰ x t → ⊥) → Distinct (s ++ t)
@@ -152,8 +157,8 @@ module _ {A : Type 0} (succ : A → List A) where
       (λ p m n. d .0 (Memᴰ·cast (sym (row-in x (succ x) (p .0) (p .1) m .0)) (pairs-in u (p .0) (p .1) n .0)))
 
 -- at most one look along each edge
-pub search-count : (qs : List Equation) → (es : List (Name × Name)) × Edges qs es × (looks Operator qs ≤ length es)
-unfolding search looks graph-names successors
+pub search-count : (qs : List Equation) → (es : List (Name × Name)) × Edges qs es × (looks-of (search qs) ≤ length es)
+unfolding search graph-names successors
 search-count qs = (
   pairs (successors qs) (graph-names qs),
   record {

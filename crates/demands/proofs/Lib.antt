@@ -5,6 +5,7 @@ pub mod Orders
 pub mod Graphs
 pub mod Clauses
 pub mod Search
+pub mod Arrows
 pub mod Edges
 pub mod Keeps
 pub mod Notes

@@ -19,17 +19,17 @@ use Rattle.lustre.specs.Init.{pres}
 use Rattle.lustre.specs.Placement.{nested}
 use Rattle.lustre.specs.Infer.{infer}
 use Rattle.lustre.specs.Deps.{defined}
-use Rattle.lustre.specs.Walk.{search, path-of}
-use Rattle.lustre.specs.Node.{repeated, absent, path-notes, loop-notes, assigns, wanted, bound-one, bound-many, bound, equation-notes, of-equation, of-node, equations-remarks, cycle-notes, opening-notes, closing-notes, body-remarks, imported-remarks, remarks-as, node-remarks}
+use Rattle.lustre.specs.Walk.{search, rust-search, path-of, looks-of}
+use Rattle.lustre.specs.Node.{repeated, absent, path-notes, loop-notes, assigns, wanted, bound-one, bound-many, bound, equation-notes, of-equation, of-node, equations-remarks, cycle-notes, looks, opening-notes, closing-notes, body-remarks, imported-remarks, remarks-as, node-remarks}
 use Rattle.lustre.specs.Report.{line, tagged, variants-in, repeated-variants, type-lines, alias-numbers, alias-line, alias-lines, node-name-lines, value-notes, constant-notes, constant-lines, opening, of-place, node-lines, report}
 use Rattle.demands.specs.Reading.{Each}
 use Rattle.demands.specs.Nodes.{keep, is-node, about-node}
-use Rattle.demands.specs.Loops.{Cyclic, Closed, loop-lines, path-lines, Operator-lines, Demand-2-loops}
+use Rattle.demands.specs.Loops.{Cyclic, Closed, loop-lines, path-lines, Searched-lines, Demand-2-loops}
 use Rattle.demands.proofs.Keeps.{keep-map, Lacks, lacks-nil, lacks-cons, lacks-one, kept-behind, kept-before, _also_, lacks-if, one-if, one-unless, lacks-map, lacks-kept}
 use Rattle.demands.proofs.Known.{Fine}
 use Rattle.demands.proofs.Notes.{infer-fine, Any, any-expr, any-scope}
 use Rattle.demands.proofs.Nodes.{own-lines, lines-about}
-use Rattle.demands.proofs.Edges.{search-closed, search-finds, search-rust, search-count}
+use Rattle.demands.proofs.Edges.{search-closed, search-finds, search-dfs, search-rust, search-count}
 
 -- the test for E0060, of notes, remarks and lines
 abbrev is-60 : Note → Bool
@@ -181,7 +181,7 @@ loop-kept (some c) = path-kept 0 c
 
 cycle-kept : (k : NodeKind) (qs : List Equation) → keep is-60 (cycle-notes k qs) ≡ cycle-notes k qs
 unfolding cycle-notes
-cycle-kept Function qs = refl
+cycle-kept Function qs = loop-kept (path-of (search qs))
 cycle-kept Operator qs = loop-kept (path-of (search qs))
 cycle-kept Imported qs = refl
 
@@ -237,10 +237,11 @@ module _ (P : Project) (i : ℕ) (n : Node) (here : getElem? (all-nodes P) i ≡
   none-are : (k : NodeKind) → n .kind ≡ k → cycle-notes k (n .equations) ≡ [] → loop-lines i (report P) ≡ []
   none-are k e h = lines-are P i n here ∙ ap (at-node-itself i) (ap (λ (k : NodeKind). cycle-notes k (n .equations)) e ∙ h)
 
-  module _ (operator : n .kind ≡ Operator) where
+  module _ (k : NodeKind) (is : n .kind ≡ k)
+      (searched : cycle-notes k (n .equations) ≡ loop-notes (path-of (search (n .equations))))
+      (counted : looks k (n .equations) ≡ looks-of (search (n .equations))) where
     lines-shown : (o : Option (List Name)) → path-of (search (n .equations)) ≡ o → loop-lines i (report P) ≡ at-node-itself i (loop-notes o)
-    unfolding cycle-notes
-    lines-shown o e = lines-are P i n here ∙ ap (at-node-itself i) (ap (λ (k : NodeKind). cycle-notes k (n .equations)) operator ∙ ap loop-notes e)
+    lines-shown o e = lines-are P i n here ∙ ap (at-node-itself i) (ap (λ (k : NodeKind). cycle-notes k (n .equations)) is ∙ searched ∙ ap loop-notes e)
 
     -- lines are of a path that was found
     shown-path : (loop-lines i (report P) ≡ [] → ⊥) → (c : List Name) × (path-of (search (n .equations)) ≡ some c) × (loop-lines i (report P) ≡ path-lines i c)
@@ -263,14 +264,18 @@ module _ (P : Project) (i : ℕ) (n : Node) (here : getElem? (all-nodes P) i ≡
         go none e = search-finds (n .equations) (k .0) (k .1) e
         go (some c) e = some-lines c (search-closed (n .equations) c e) (sym (lines-shown (some c) e) ∙ h)
 
-    operator-lines : Operator-lines P i (n .equations)
-    operator-lines = record {
+    searched-lines : Searched-lines P i k (n .equations)
+    searched-lines = record {
       exactly = ((λ h. let p = shown-path h in (p .0, search-closed (n .equations) (p .0) (p .1))), path-shown);
-      path = λ h. let p = shown-path h in (p .0, search-closed (n .equations) (p .0) (p .1), p .2, search-rust (n .equations) ∙ p .1);
-      rust = search-rust (n .equations);
-      count = search-count (n .equations);
+      path = λ h. let p = shown-path h in (p .0, search-closed (n .equations) (p .0) (p .1), p .2, search-dfs (n .equations) ∙ p .1);
+      dfs = search-dfs (n .equations);
+      count = rw counted (search-count (n .equations));
     }
 
 pub demand-2-loops : Demand-2-loops
-unfolding cycle-notes
-demand-2-loops P i n here = (operator-lines P i n here, (λ e. none-are P i n here Function e refl), (λ e. none-are P i n here Imported e refl))
+unfolding cycle-notes looks
+demand-2-loops P i n here = (
+  λ e. (searched-lines P i n here Operator e refl refl, λ a. lines-shown P i n here Operator e refl refl (rust-search (n .equations)) (sym (search-rust (n .equations) a))),
+  λ e. searched-lines P i n here Function e refl refl,
+  λ e. none-are P i n here Imported e refl,
+)

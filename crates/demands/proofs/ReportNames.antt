@@ -87,7 +87,7 @@ module _ (K : Name → Type 0) where
     known-reads (binary o a b) h = each-append K (reads a) _ (known-reads a (h .0)) (known-reads b (h .1))
     known-reads (ite c a b) h = each-append K (reads c ++ reads a) _ (each-append K (reads c) _ (known-reads c (h .0)) (known-reads a (h .1))) (known-reads b (h .2))
     known-reads (pre e) h = tt
-    known-reads (arrow a b) h = known-reads a (h .0)
+    known-reads (arrow a b) h = each-append K (reads a) _ (known-reads a (h .0)) (known-reads b (h .1))
     known-reads (call f es) h = known-reads-each es (h .1)
     known-reads (field x e) h = known-reads e (h .1)
     known-reads (index a b) h = each-append K (reads a) _ (known-reads a (h .0)) (known-reads b (h .1))
@@ -304,7 +304,7 @@ module _ (K : Name → Type 0) where
 
   known-cycle-notes : (k : NodeKind) (qs : List Equation) → Each (Known-equation K) qs → Each Known-note (cycle-notes k qs)
   unfolding cycle-notes
-  known-cycle-notes Function qs h = tt
+  known-cycle-notes Function qs h = known-loop-notes qs h (path-of (seek qs)) refl
   known-cycle-notes Operator qs h = known-loop-notes qs h (path-of (seek qs)) refl
   known-cycle-notes Imported qs h = tt
 

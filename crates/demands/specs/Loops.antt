@@ -1,5 +1,5 @@
--- Demand 2, second sentence: an operator gets E0060 exactly if its immediate-dependency graph has a directed cycle, and a closed path of
--- its edges is shown.
+-- Demand 2, second sentence, with request 2.6: an operator or a function gets E0060 exactly if its immediate-dependency graph has a
+-- directed cycle, and a closed path of its edges is shown.
 -- Assumes nothing: these are definitions and statements, proved in proofs/.
 use Prim.Native.Nat.{ℕ, _≤_}
 use mathlib.Core.Path.{_≡_}
@@ -8,12 +8,14 @@ use mathlib.Core.Option.{some}
 use lib.Dec.{eqb}
 use lib.ListN.{length, getElem?}
 use Rattle.lustre.specs.Name.{Name}
-use Rattle.lustre.specs.Project.{Equation, Node, Function, Operator, Imported, Project, all-nodes}
+use Rattle.lustre.specs.Expr.{Expr, Exprs, Inits, const, var, unary, binary, ite, pre, arrow, call, field, index, tuple, array, struct, cast, when, merge, iterate, iterate-from, []ᵉ, _∷ᵉ_, []ⁱ, init}
+use Rattle.lustre.specs.Project.{Equation, NodeKind, Node, Function, Operator, Imported, Project, all-nodes}
 use Rattle.lustre.specs.Line.{Line}
-use Rattle.lustre.specs.Deps.{reads}
-use Rattle.lustre.specs.Walk.{search, rust-search, path-of}
-use Rattle.lustre.specs.Node.{looks, path-notes, of-node}
+use Rattle.lustre.specs.Deps.{reads, rust-reads, rust-equations}
+use Rattle.lustre.specs.Walk.{search, dfs-search, rust-search, path-of}
+use Rattle.lustre.specs.Node.{path-notes, loop-notes, looks, of-node}
 use Rattle.lustre.specs.Report.{report, of-place}
+use Rattle.demands.specs.Reading.{Each}
 use Rattle.demands.specs.Nodes.{about-node, keep}
 
 -- a has an edge to b if some equation has a on its left and reads b in the same instant
@@ -54,19 +56,66 @@ loop-lines i ls = keep (λ l. eqb (l .remark .note .code) 60) (about-node i ls)
 abbrev pub path-lines : ℕ → List Name → List Line
 path-lines i c = map (λ m. of-place i (of-node m)) (path-notes 0 c)
 
--- what holds of an operator, node i
-pub record Operator-lines (P : Project) (i : ℕ) (qs : List Equation) : Type 0 where
+-- no arrow stands in an expression
+unfoldable mutual
+  pub Arrowless : Expr → Type 0
+  Arrowless (const l w) = Unit {0}
+  Arrowless (var x) = Unit {0}
+  Arrowless (unary o e) = Arrowless e
+  Arrowless (binary o l r) = Arrowless l × Arrowless r
+  Arrowless (ite c t e) = Arrowless c × Arrowless t × Arrowless e
+  Arrowless (pre e) = Arrowless e
+  Arrowless (arrow i b) = ⊥
+  Arrowless (call f es) = Arrowless-each es
+  Arrowless (field x e) = Arrowless e
+  Arrowless (index b i) = Arrowless b × Arrowless i
+  Arrowless (tuple es) = Arrowless-each es
+  Arrowless (array es) = Arrowless-each es
+  Arrowless (struct n is) = Arrowless-eachⁱ is
+  Arrowless (cast t e) = Arrowless e
+  Arrowless (when on c e) = Arrowless e
+  Arrowless (merge c t f) = Arrowless t × Arrowless f
+  Arrowless (iterate k f es) = Arrowless-each es
+  Arrowless (iterate-from k f s es) = Arrowless s × Arrowless-each es
+
+  pub Arrowless-each : Exprs → Type 0
+  Arrowless-each []ᵉ = Unit {0}
+  Arrowless-each (e ∷ᵉ es) = Arrowless e × Arrowless-each es
+
+  pub Arrowless-eachⁱ : Inits → Type 0
+  Arrowless-eachⁱ []ⁱ = Unit {0}
+  Arrowless-eachⁱ (init x e is) = Arrowless e × Arrowless-eachⁱ is
+
+-- no arrow stands in the equations
+abbrev pub No-arrows : List Equation → Type 0
+No-arrows = Each (λ (q : Equation). Arrowless (q .rhs))
+
+-- what holds of an operator and of a function, node i, of kind k
+pub record Searched-lines (P : Project) (i : ℕ) (k : NodeKind) (qs : List Equation) : Type 0 where
   -- E0060 lines exactly if there is a directed cycle
   pub exactly : ((loop-lines i (report P) ≡ [] → ⊥) → Cyclic qs) × (Cyclic qs → loop-lines i (report P) ≡ [] → ⊥)
   -- together they are one closed path
-  pub path : (loop-lines i (report P) ≡ [] → ⊥) → (c : List Name) × Closed qs c × (loop-lines i (report P) ≡ path-lines i c) × (rust-search qs ≡ some c)
-  -- the Rust's search, which enters cleared names again, finds the same path
-  pub rust : rust-search qs ≡ path-of (search qs)
+  pub path : (loop-lines i (report P) ≡ [] → ⊥) → (c : List Name) × Closed qs c × (loop-lines i (report P) ≡ path-lines i c) × (dfs-search qs ≡ some c)
+  -- the Rust's `dfs`, which enters cleared names again, finds the same path in the same graph
+  pub dfs : dfs-search qs ≡ path-of (search qs)
   -- at most as many looks as there are edges
-  pub count : (es : List (Name × Name)) × Edges qs es × (looks Operator qs ≤ length es)
+  pub count : (es : List (Name × Name)) × Edges qs es × (looks k qs ≤ length es)
 
+-- the E0060 lines that the Rust gives of an operator with the equations qs, node i
+abbrev pub rust-lines : ℕ → List Equation → List Line
+rust-lines i qs = map (λ m. of-place i (of-node m)) (loop-notes (rust-search qs))
+
+-- demand 2 on E0060; where no arrow stands in an operator, its lines are the Rust's
 abbrev pub Demand-2-loops : Type 0
 Demand-2-loops = (P : Project) (i : ℕ) (n : Node) → getElem? (all-nodes P) i ≡ some n
-    → (n .kind ≡ Operator → Operator-lines P i (n .equations))
-    × (n .kind ≡ Function → loop-lines i (report P) ≡ [])
+    → (n .kind ≡ Operator → Searched-lines P i Operator (n .equations) × (No-arrows (n .equations) → loop-lines i (report P) ≡ rust-lines i (n .equations)))
+    × (n .kind ≡ Function → Searched-lines P i Function (n .equations))
     × (n .kind ≡ Imported → loop-lines i (report P) ≡ [])
+
+-- in an expression without an arrow the Rust reads the same names
+abbrev pub Same-reads : Type 0
+Same-reads = (e : Expr) → Arrowless e → rust-reads e ≡ reads e
+
+-- no loop of the Rust is lost: each of its edges is an edge, so that a closed path in its graph is one here
+abbrev pub Rust-loops : Type 0
+Rust-loops = (qs : List Equation) (c : List Name) → Closed (rust-equations qs) c → Closed qs c

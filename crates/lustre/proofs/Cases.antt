@@ -127,10 +127,12 @@ marked =
     -- 0 -> pre pre a: one E0070, the inner. 0 -> pre (0 -> pre a): none
     ∷ (uninitialised (arrow (num 0) (pre (pre (v "a")))), steps (3 ∷ []))
     ∷ (uninitialised (arrow (num 0) (pre (arrow (num 0) (pre (v "a"))))), steps [])
-    -- operator with x = x: path x, x. Function: none. Operator with x = 0 -> x: none
+    -- operator with x = x: path x, x. Since request 2.6 function with x = x and operator with x = 0 -> x: the same
     ∷ (calling (x-equals 11 ((44, x) ∷ [])) names, called (Report 2 1) (on-path 0 x ∷ on-path 1 x ∷ []))
-    ∷ (calling (x-equals 10 ((44, x) ∷ [])) names, called (Report 0 0) [])
-    ∷ (calling (x-equals 11 ((69, 0) ∷ (41, 0) ∷ (44, x) ∷ [])) names, called (Report 0 0) [])
+    ∷ (calling (x-equals 10 ((44, x) ∷ [])) names, called (Report 2 1) (on-path 0 x ∷ on-path 1 x ∷ []))
+    ∷ (calling (x-equals 11 ((69, 0) ∷ (41, 0) ∷ (44, x) ∷ [])) names, called (Report 2 1) (on-path 0 x ∷ on-path 1 x ∷ []))
+    -- x = 0 -> pre x: none
+    ∷ (calling (x-equals 11 ((69, 0) ∷ (41, 0) ∷ (68, 0) ∷ (44, x) ∷ [])) names, called (Report 0 0) [])
     -- the worked example: lines 3 followed 2
     ∷ (calling worked-example names, called (Report 3 2) (on-path 0 a ∷ on-path 1 b ∷ on-path 2 a ∷ []))
     ∷ []

@@ -209,14 +209,14 @@ leaf k y is os qs = node′ k y is os [] qs []
 -- all its other nodes
 abbrev pub nodes : List Node
 nodes =
-    leaf Function "sum" ("l" of Int32 ∷ "r" of Int32 ∷ []) ("o" of Int32 ∷ []) ("o" ≔ v "l" ∷ [])
-    ∷ leaf Function "next" ("l" of Int32 ∷ []) ("o" of Int32 ∷ []) ("o" ≔ v "l" ∷ [])
+    leaf Function "sum" ("l" of Int32 ∷ "r" of Int32 ∷ []) ("o" of Int32 ∷ []) ("o" ≔ num 0 ∷ [])
+    ∷ leaf Function "next" ("l" of Int32 ∷ []) ("o" of Int32 ∷ []) ("o" ≔ num 0 ∷ [])
     ∷ leaf Function "zero" [] ("o" of Int32 ∷ []) ("o" ≔ num 0 ∷ [])
     ∷ leaf Function "test" ("l" of Int32 ∷ []) ("o" of Boolean ∷ []) ("o" ≔ yes ∷ [])
-    ∷ leaf Function "tiny" ("l" of Small ∷ []) ("o" of Small ∷ []) ("o" ≔ v "l" ∷ [])
+    ∷ leaf Function "tiny" ("l" of Small ∷ []) ("o" of Small ∷ []) ("o" ≔ num 0 ∷ [])
     ∷ leaf Function "compare" ("l" of Int32 ∷ "r" of Int32 ∷ []) ("o" of Boolean ∷ []) ("o" ≔ yes ∷ [])
-    ∷ leaf Function "tally" ("l" of Small ∷ "r" of Boolean ∷ []) ("o" of Int8 ∷ []) ("o" ≔ v "l" ∷ [])
-    ∷ leaf Function "three" ("l" of Int32 ∷ "m" of Int32 ∷ "r" of Int32 ∷ []) ("o" of Int32 ∷ []) ("o" ≔ v "l" ∷ [])
+    ∷ leaf Function "tally" ("l" of Small ∷ "r" of Boolean ∷ []) ("o" of Int8 ∷ []) ("o" ≔ num 0 ∷ [])
+    ∷ leaf Function "three" ("l" of Int32 ∷ "m" of Int32 ∷ "r" of Int32 ∷ []) ("o" of Int32 ∷ []) ("o" ≔ num 0 ∷ [])
     ∷ leaf Function "two" [] ("o" of Int32 ∷ "q" of Int32 ∷ []) ("o" ≔ num 0 ∷ "q" ≔ num 0 ∷ [])
     ∷ leaf Function "quiet" [] [] []
     ∷ leaf Operator "count" ("l" of Int32 ∷ []) ("o" of Int32 ∷ []) ("o" ≔ num 0 ∷ [])

@@ -231,7 +231,7 @@ bodies =
     -- the last declaration's type is in force, inputs before outputs before locals; it is the hint, too
     ∷ (alone Function ("a" of Int8 ∷ "a" of Int32 ∷ []) ("x" of Int32 ∷ []) [] ("x" ≔ v "a" ∷ []) [] gives E 10 on "a" ∷ [])
     ∷ (alone Function ("a" of Int8 ∷ []) ("x" of Int32 ∷ "a" of Int32 ∷ []) [] ("x" ≔ v "a" ∷ "a" ≔ v "x" ∷ []) []
-    gives E 11 on "a" ∷ E 22 eq 1 on "a" ∷ [])
+    gives E 11 on "a" ∷ E 22 eq 1 on "a" ∷ loop 0 on "a" ∷ loop 1 on "x" ∷ loop 2 on "a" ∷ [])
     ∷ (alone Function [] ("x" of Int8 ∷ []) ("x" of Boolean ∷ []) ("x" ≔ yes ∷ []) [] gives E 12 on "x" ∷ [])
     ∷ (alone Function [] ("x" of Int8 ∷ []) ("x" of Int64 ∷ []) ("x" ≔ num 1 ∷ []) [] gives E 12 on "x" ∷ [])
     -- E0020 or E0022, then E0021, name by name, for unknown names and inputs too
@@ -255,7 +255,7 @@ bodies =
     -- after the equations: E0050, W0051, E0060, E0150; a probe may name any port or local
     ∷ (body Operator ("i" ∷ []) ("o" ∷ "x" ∷ []) ("l" ∷ []) ("x" ≔ v "x" ∷ []) ("z" ∷ "i" ∷ "o" ∷ "l" ∷ "z" ∷ [])
     gives E 50 on "o" ∷ E 51 on "l" ∷ loop 0 on "x" ∷ loop 1 on "x" ∷ E 150 on "z" ∷ E 150 on "z" ∷ [])
-    ∷ (body Function [] ("x" ∷ []) ("l" ∷ []) ("x" ≔ v "x" ∷ []) ("z" ∷ []) gives E 51 on "l" ∷ E 150 on "z" ∷ [])
+    ∷ (body Function [] ("x" ∷ []) ("l" ∷ []) ("x" ≔ v "x" ∷ []) ("z" ∷ []) gives E 51 on "l" ∷ loop 0 on "x" ∷ loop 1 on "x" ∷ E 150 on "z" ∷ [])
     -- an imported node gets E0002 or nothing
     ∷ (body Imported ("a" ∷ "a" ∷ []) ("o" ∷ []) ("l" ∷ []) ("z" ≔ v "z" ∷ "z" ≔ v "lost" ∷ []) ("z" ∷ [])
     gives ln 2 at-node 0 none none none ∷ [] following 0)
@@ -294,15 +294,21 @@ loops =
     ∷ (graph [] ("i" ≔ v "i" ∷ []) gives E 22 eq 0 on "i" ∷ loop 0 on "i" ∷ loop 1 on "i" ∷ [] following 1)
     -- x = fold f x [..]: the seed counts in the graph
     ∷ (graph ("x" ∷ []) ("x" ≔ iterate-from′ Fold "f" (v "x") []ᵉ ∷ []) gives E 140 at 0 on "f" ∷ loop 0 on "x" ∷ loop 1 on "x" ∷ [] following 1)
-    -- each operator has its own search, a function none, and the looks add up
-    ∷ (project [] [] (looping Operator "m" (v "a") ∷ looping Function "f" (v "a") ∷ looping Operator "o" (v "i") ∷ [])
-    gives loop 0 on "a" ∷ loop 1 on "a" ∷ [] following 2)
+    -- each operator and each function has its own search, an imported node none, and the looks add up
+    ∷ (project [] [] (looping Operator "m" (v "a") ∷ looping Function "f" (v "a") ∷ looping Operator "o" (v "i") ∷ looping Function "g" (v "i") ∷ [])
+    gives loop 0 on "a" ∷ loop 1 on "a" ∷ ln 60 at-node 1 none (some 0) (some (text "a")) ∷ ln 60 at-node 1 none (some 1) (some (text "a")) ∷ [] following 4)
+    -- the body of an arrow is read, and its least name is tried first; not what stands under pre there
+    ∷ (graph ("a" ∷ "b" ∷ "c" ∷ []) ("a" ≔ arrow (v "c") (v "b") ∷ "b" ≔ v "a" ∷ "c" ≔ v "a" ∷ []) gives loop 0 on "a" ∷ loop 1 on "b" ∷ loop 2 on "a" ∷ [] following 2)
+    ∷ (graph ("a" ∷ []) ("a" ≔ arrow (num 0) (pre (arrow (num 0) (v "a"))) ∷ []) gives [] following 0)
     ∷ (pack "p" [] [] (blank "m" ∷ []) ∷ pack "q" [] [] (looping Operator "n" (v "a") ∷ []) ∷ []
     gives ln 60 at-node 1 none (some 0) (some (text "a")) ∷ ln 60 at-node 1 none (some 1) (some (text "a")) ∷ [] following 1)
     -- the Rust's `dfs`, which enters cleared names again, finds the same paths
     ∷ ("a" ≔ v "b" ∷ "b" ≔ v "c" ∷ "c" ≔ v "d" ∷ "d" ≔ v "b" ∷ [] finds "b" ∷ "c" ∷ "d" ∷ "b" ∷ [])
     ∷ ("a" ≔ plus "b" "c" ∷ "c" ≔ v "c" ∷ "b" ≔ v "i" ∷ [] finds "c" ∷ "c" ∷ [])
     ∷ ("b" ≔ v "b" ∷ "a" ≔ v "a" ∷ [] finds "a" ∷ "a" ∷ [])
+    -- but the Rust does not read the body of an arrow
+    ∷ ("a" ≔ arrow (v "c") (v "b") ∷ "b" ≔ v "a" ∷ "c" ≔ v "a" ∷ [] finds "a" ∷ "c" ∷ "a" ∷ [])
+    ∷ finds-none ("a" ≔ arrow (num 0) (v "a") ∷ [])
     ∷ finds-none ("a" ≔ plus "b" "c" ∷ "b" ≔ v "d" ∷ "c" ≔ v "d" ∷ "d" ≔ v "i" ∷ [])
     ∷ []
 

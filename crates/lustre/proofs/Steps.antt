@@ -141,7 +141,7 @@ temporal =
 -- rows of what is read
 abbrev read-names : List (Seen × Seen)
 read-names =
-    -- What is read: the number of names in every operand, each looked at once. Names under pre and in an arrow's body are not read
+    -- What is read: the number of names in every operand, each looked at once. Names under pre are not read
     (operator Int32 (num 1) follows 0)
     ∷ (operator Int32 (v "i32") follows 1)
     ∷ (operator Int32 (unary Neg (v "i32")) follows 1)
@@ -149,7 +149,10 @@ read-names =
     ∷ (operator Int32 (binary Add (v "i32") (v "i32")) follows 1)
     ∷ (operator Int32 (ite (v "bool") (v "i32") (v "i8")) follows 3)
     ∷ (operator Int32 (pre (v "i32")) follows 0)
-    ∷ (operator Int32 (arrow (v "i32") (v "i8")) follows 1)
+    ∷ (operator Int32 (arrow (v "i32") (v "i8")) follows 2)
+    ∷ (operator Int32 (arrow (v "i32") (pre (v "i8"))) follows 1)
+    ∷ (operator Int32 (arrow (v "i32") (arrow (v "i8") (v "bool"))) follows 3)
+    ∷ (operator Int32 (pre (arrow (v "i32") (v "i8"))) follows 0)
     ∷ (operator Int32 (call′ "sum" (v "i32" ∷ᵉ v "i8" ∷ᵉ []ᵉ)) follows 2)
     ∷ (operator Int32 (field′ "left" (v "point")) follows 1)
     ∷ (operator Int32 (index (v "ints") (v "i32")) follows 2)
@@ -163,7 +166,7 @@ read-names =
     -- a seed is read, a map's too
     ∷ (operator Int32 (iterate-from′ Fold "sum" (v "i32") (v "ints" ∷ᵉ v "pair" ∷ᵉ []ᵉ)) follows 3)
     ∷ (operator Int32 (iterate-from′ Map "next" (v "i32") (v "ints" ∷ᵉ []ᵉ)) follows 2)
-    ∷ (function Int32 (v "i32") follows 0)
+    ∷ (function Int32 (v "i32") follows 1)
     ∷ []
 
 -- the table: what the definition says of a model, and what the Rust says

@@ -87,15 +87,15 @@ equations-remarks Γ n env seen i (q ∷ qs) =
     map (of-equation i) (equation-notes Γ n env seen q)
     ++ equations-remarks Γ n env (q .lhs ++ seen) (suc i) qs
 
--- lib.rs 495: only an operator is searched here, since imported nodes have been left before
+-- lib.rs 495: an operator is searched, and since request 2.6 a function too; imported nodes have been left before
 unfoldable pub cycle-notes : NodeKind → List Equation → List Note
-cycle-notes Function qs = []
+cycle-notes Function qs = loop-notes (path-of (search qs))
 cycle-notes Operator qs = loop-notes (path-of (search qs))
 cycle-notes Imported qs = []
 
 -- the looks along an edge in one node
 unfoldable pub looks : NodeKind → List Equation → ℕ
-looks Function qs = 0
+looks Function qs = looks-of (search qs)
 looks Operator qs = looks-of (search qs)
 looks Imported qs = 0
 

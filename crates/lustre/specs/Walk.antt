@@ -9,7 +9,7 @@ use mathlib.Core.Option.{Option, none, some}
 use lib.ListN.{length}
 use Rattle.lustre.specs.Name.{Name, mem, _is_, set-of}
 use Rattle.lustre.specs.Project.{Equation}
-use Rattle.lustre.specs.Deps.{defined, read-in, successors}
+use Rattle.lustre.specs.Deps.{defined, read-in, successors, rust-equations}
 
 -- what the search answers: a closed path, or the names that are cleared by now, the last first; and how many looks it took
 pub data Search (A : Type 0) : Type 0 where
@@ -105,6 +105,10 @@ graph-names qs = set-of (defined qs ++ read-in qs)
 unfoldable pub search : List Equation → Search Name
 search qs = walk _is_ (successors qs) (length (graph-names qs)) (set-of (defined qs))
 
--- the Rust's, which needs one step more to see a name again
+-- the same search by the Rust's `dfs`, which needs one step more to see a name again
+unfoldable pub dfs-search : List Equation → Option (List Name)
+dfs-search qs = rust-walk _is_ (successors qs) (suc (length (graph-names qs))) (set-of (defined qs))
+
+-- the Rust's search, which follows no edge into the body of an arrow
 unfoldable pub rust-search : List Equation → Option (List Name)
-rust-search qs = rust-walk _is_ (successors qs) (suc (length (graph-names qs))) (set-of (defined qs))
+rust-search qs = dfs-search (rust-equations qs)

@@ -1,14 +1,14 @@
 -- A node's ports and edges taken out again, and the lines behind those of its equations.
 -- Assumes nothing.
-use Prim.Native.Nat.{ℕ, _+_, _<_}
+use Prim.Native.Nat.{ℕ, _+_}
 use mathlib.Core.Path.{_≡_, refl, sym, _∙_}
 use mathlib.Core.Logic.{⊎-elim}
-use mathlib.Core.Bool.{Bool, true, false, not, _||_, _&&_}
+use mathlib.Core.Bool.{Bool, true, false, _||_, _&&_}
 use mathlib.Core.List.{List, [], _∷_, _++_, append-assoc, append-nil}
 use lib.ListN.{length}
 use Rattle.lustre.specs.Name.{Name, _among_, mem}
 use Rattle.lustre.specs.Types.{Ty}
-use Rattle.lustre.specs.Project.{Port, Heading, Equation, Node, port-names, is-function}
+use Rattle.lustre.specs.Project.{Port, Heading, Equation, Node, port-names}
 use Rattle.lustre.specs.Deps.{defined, read-by}
 use Rattle.demands.proofs.Sets.{clash, split}
 use Rattle.standing.specs.Standing.{source, outputs-from, locals-from}
@@ -57,17 +57,10 @@ cleared-blank g n {set} {graph} k e c room = record {
   empty = λ a b p r.
       c .edges a b p r
       ∙ ⊎-elim
-      (λ (f : is-function (n .kind) ≡ true). rw (e .none f a b p r))
-      (λ (f : is-function (n .kind) ≡ false). operator a b p r f)
-      (split (is-function (n .kind)));
+      (λ (h : (g .text a among defined (n .equations)) ≡ true). rw (k .each a p, h) (and-false (has graph a b)))
+      (λ (h : (g .text a among defined (n .equations)) ≡ false). rw (e .edges a b p r, read-nothing (g .text a) (n .equations) h, among-none (g .text b)))
+      (split (g .text a among defined (n .equations)));
 }
-  where
-    operator : (a b : ℕ) → a < 512 → b < 512 → is-function (n .kind) ≡ false → (has graph a b && not (has set 0 a)) ≡ false
-    operator a b p r f =
-        ⊎-elim
-        (λ (h : (g .text a among defined (n .equations)) ≡ true). rw (k .each a p, h) (and-false (has graph a b)))
-        (λ (h : (g .text a among defined (n .equations)) ≡ false). rw (e .edges f a b p r, read-nothing (g .text a) (n .equations) h, among-none (g .text b)))
-        (split (g .text a among defined (n .equations)))
 
 -- ---- the scope
 

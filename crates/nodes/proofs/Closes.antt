@@ -7,7 +7,7 @@ use mathlib.Core.Bool.{Bool, true, false, _||_}
 use mathlib.Core.List.{List, [], _∷_, _++_}
 use Rattle.lustre.specs.Name.{Name, if_then_else_, _is_, _among_, mem}
 use Rattle.lustre.specs.Types.{Ty}
-use Rattle.lustre.specs.Project.{Port, Heading, NodeKind, Imported, Equation, Node, port-names, is-function}
+use Rattle.lustre.specs.Project.{Port, Heading, NodeKind, Imported, Equation, Node, port-names}
 use Rattle.lustre.specs.Deps.{reads, defined, read-in, read-by}
 use Rattle.lustre.specs.Walk.{graph-names}
 use Rattle.lustre.specs.Node.{absent, cycle-notes, looks, closing-notes}
@@ -68,14 +68,14 @@ in-graph x qs h =
 
 -- the edges and the names assigned show the equations
 pub shown : {ks ws : List ℕ} (g : Model ks ws) {n : Node} {at : ℕ} → Standing-node g n at → {set graph : List ℕ} → Holds (g .text) (defined (n .equations)) set → Graph-of g n graph
-    → is-function (n .kind) ≡ false → Shows (n .equations) (g .text) (g .names) graph set
-shown g {n} s k e f = record {
+    → Shows (n .equations) (g .text) (g .names) graph set
+shown g {n} s k e = record {
   few = g .some-names;
   increasing = g .increasing;
   numbered = s .numbered;
-  edges = λ a b p r. e .edges f a b (omega (arith, g .some-names)) (omega (arith, g .some-names));
+  edges = λ a b p r. e .edges a b (omega (arith, g .some-names)) (omega (arith, g .some-names));
   edges-within = λ a b p r h.
-      below b (or-second (g .text b among defined (n .equations)) (g .text b among read-in (n .equations)) (read-somewhere (g .text a) (g .text b) (n .equations) (sym (e .edges f a b (omega (arith, g .some-names)) r) ∙ h)));
+      below b (or-second (g .text b among defined (n .equations)) (g .text b among read-in (n .equations)) (read-somewhere (g .text a) (g .text b) (n .equations) (sym (e .edges a b (omega (arith, g .some-names)) r) ∙ h)));
   starts = λ a p. k .each a (omega (arith, g .some-names));
   starts-within = λ a p h. below a (or-first (g .text a among defined (n .equations)) (g .text a among read-in (n .equations)) (sym (k .each a p) ∙ h));
 }
@@ -102,23 +102,23 @@ Lacks ks ws list set code q o n m o′ =
 
 -- the outputs and locals that are not assigned, the loop, and the probes that are not in force
 pub closed : {ks ws sc : List ℕ} {at : ℕ} (g : Node-open ks ws sc at) {outputs locals probes : ℕ} {q : Spot} {set graph o o₁ o₂ o₃ o₄ : List ℕ} {n m₁ m₂ m₄ : ℕ} {j : Judged}
-    → outputs ≡ outputs-from (g .n) at → locals ≡ locals-from (g .n) at → probes ≡ probes-from (g .n) at → (g .n .kind ≡ Imported → ⊥) → is-function (g .n .kind) ≡ q .function
+    → outputs ≡ outputs-from (g .n) at → locals ≡ locals-from (g .n) at → probes ≡ probes-from (g .n) at → (g .n .kind ≡ Imported → ⊥)
     → Holds (g .model .text) (defined (g .n .equations)) set → Graph-of (g .model) (g .n) graph
     → Lacks ks ws outputs set 50 q o n m₁ o₁ → Lacks ks ws locals set 51 q o₁ m₁ m₂ o₂
     → (j .looks ≤ 262144)
-    × ((kind : NodeKind) (qs : List Equation) (text : Naming) (num : Name → ℕ) (names : ℕ) → (kind ≡ Imported → ⊥) → is-function kind ≡ q .function → Numbers text num
-    → (is-function kind ≡ false → Shows qs text names graph set) → Noted num q (cycle-notes kind qs) o₂ m₂ (j .n) o₃ × (j .looks ≡ looks kind qs))
+    × ((kind : NodeKind) (qs : List Equation) (text : Naming) (num : Name → ℕ) (names : ℕ) → (kind ≡ Imported → ⊥) → Numbers text num
+    → Shows qs text names graph set → Noted num q (cycle-notes kind qs) o₂ m₂ (j .n) o₃ × (j .looks ≡ looks kind qs))
     → ((h : Names-here ws probes) (num : Name → ℕ) → Numbers (h .text) num
     → (as′ : List (Name × Ty)) (rs : List (Name × List Port)) (vs : List (Name × Name)) (cs : List (Name × Ty)) (ns : List (Name × Heading)) (env : List Port)
     → Tables (source (h .ks) ws (h .text)) as′ rs vs cs ns env sc → Noted num q (absent 150 (port-names env) (h .xs)) o₃ (j .n) m₄ o₄)
     → Node-closed (g .model) (g .n) q o n (record { n = m₄; looks = j .looks }) o₄
-closed g e₁ e₂ e₃ k f h w first second loops third =
+closed g e₁ e₂ e₃ k h w first second loops third =
     let s = g .node .stands in
     let l = g .node .shallow in
     let num = g .model .number in
     let b = g .model .back in
     let xs = defined (g .n .equations) in
-    let c = loops .1 (g .n .kind) (g .n .equations) (g .model .text) num (g .model .names) k f b (shown (g .model) (g .node) h w) in
+    let c = loops .1 (g .n .kind) (g .n .equations) (g .model .text) num (g .model .names) k b (shown (g .model) (g .node) h w) in
     record {
       noted = rw (closing-parts (g .n) (env-of (g .n))) (
           noted-append

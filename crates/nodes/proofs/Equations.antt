@@ -166,9 +166,9 @@ lines-none Γ n seen i e = refl
 
 -- ---- the loop
 
--- what edges a call leaves: none in a function, else those of the equation
-abbrev pub Noted-edges : {ks ws : List ℕ} {next : ℕ} → Bool → Equation-here ks ws next → List ℕ → List ℕ → Type 0
-Noted-edges function h graph graph′ = (function ≡ true → graph′ ≡ graph) × (function ≡ false → Injective (h .text) → Edges-added (h .text) (h .eq) graph graph′)
+-- what edges a call leaves: those of the equation
+abbrev pub Adds-edges : {ks ws : List ℕ} {next : ℕ} → Equation-here ks ws next → List ℕ → List ℕ → Type 0
+Adds-edges h graph graph′ = Injective (h .text) → Edges-added (h .text) (h .eq) graph graph′
 
 -- p is the spot of equation e of the node at q
 abbrev pub Spot-in : Spot → ℕ → Spot → Type 0
@@ -190,8 +190,7 @@ module _ {ks ws sc : List ℕ} {at : ℕ} (g : Node-open ks ws sc at) (list : �
     pub holds : Holds (g .model .text) seen set
     pub same : (x : Name) → (x among (seen ++ defined (ahead .rest))) ≡ (x among defined (g .n .equations))
     pub reports : {m′ : ℕ} {o′ : List ℕ} → Reports (g .model .number) (q .first) (lines seen e (ahead .rest)) out m m′ o′ → Reports (g .model .number) (q .first) (lines [] 0 (g .n .equations)) o k m′ o′
-    pub edges : is-function (g .n .kind) ≡ false → (a b : ℕ) → a < 512 → b < 512 → (has graph a b || read (ahead .rest) a b) ≡ read (g .n .equations) a b
-    pub none : is-function (g .n .kind) ≡ true → (a b : ℕ) → a < 512 → b < 512 → has graph a b ≡ false
+    pub edges : (a b : ℕ) → a < 512 → b < 512 → (has graph a b || read (ahead .rest) a b) ≡ read (g .n .equations) a b
 
   -- all are left
   pub checking-start : {set graph : List ℕ} → list ≡ equations-from (g .n) at → Holds (g .model .text) [] set → Blank graph → Checking set graph o (getD ws list 0) (list + 1) 0 k
@@ -202,8 +201,7 @@ module _ {ks ws sc : List ℕ} {at : ℕ} (g : Node-open ks ws sc at) (list : �
     holds = s;
     same = λ x. refl;
     reports = λ r. r;
-    edges = λ f x y s t. ap (λ (u : Bool). u || read (g .n .equations) x y) (b .empty x y s t);
-    none = λ f. b .empty;
+    edges = λ x y s t. ap (λ (u : Bool). u || read (g .n .equations) x y) (b .empty x y s t);
   }
 
   module _ {set graph out : List ℕ} {left next e m : ℕ} (c : Checking set graph out left next e m) where
@@ -236,7 +234,7 @@ module _ {ks ws sc : List ℕ} {at : ℕ} (g : Node-open ks ws sc at) (list : �
 
       -- one more
       pub checking-next : {p : Spot} → Spot-in q e p → is-function (g .n .kind) ≡ q .function → q .place ≡ 4 → {ins set′ graph′ out′ : List ℕ} {r : Passed} {i : ℕ}
-          → Holds (g .model .text) (port-names (g .n .inputs)) ins → Noted-edges (q .function) (here-first g (c .ahead) h) graph graph′
+          → Holds (g .model .text) (port-names (g .n .inputs)) ins → Adds-edges (here-first g (c .ahead) h) graph graph′
           → Equation-checked (given-first g (c .ahead) h) p ins set out m r set′ out′ → i + 1 ≡ left → Checking set′ graph′ out′ i (r .next) (e + 1) (r .n)
       unfolding ahead-next
       checking-next w f at4 {graph′ = graph′} {out′} {r} t v d k =
@@ -248,8 +246,7 @@ module _ {ks ws sc : List ℕ} {at : ℕ} (g : Node-open ks ws sc at) (list : �
             holds = d .assigned (c .seen) (c .holds);
             same = λ y. defined-moved y (c .seen) (x .x) (x .rest) ∙ ap (λ (l : List Equation). y among (c .seen ++ defined l)) (sym (x .is)) ∙ c .same y;
             reports = λ s. c .reports (reports-next w f at4 t d (rw u at s));
-            edges = λ n a b s s′. edges-next (v .1 (sym f ∙ n) (apart (g .model))) a b s s′ ∙ c .edges n a b s s′;
-            none = λ n a b s s′. ap (λ (l : List ℕ). has l a b) (v .0 (sym f ∙ n)) ∙ c .none n a b s s′;
+            edges = λ a b s s′. edges-next (v (apart (g .model))) a b s s′ ∙ c .edges a b s s′;
           }
 
     -- none is left
@@ -263,7 +260,6 @@ module _ {ks ws sc : List ℕ} {at : ℕ} (g : Node-open ks ws sc at) (list : �
           assigned = holds-same (λ x. sym (defined-end x (c .seen)) ∙ ap (λ (l : List Equation). x among (c .seen ++ defined l)) (sym none) ∙ c .same x) (c .holds);
           graph = record {
             room = room;
-            edges = λ f a b s t. sym (or-false (has graph a b)) ∙ ap (λ (l : List Equation). has graph a b || read l a b) (sym none) ∙ c .edges f a b s t;
-            none = c .none;
+            edges = λ a b s t. sym (or-false (has graph a b)) ∙ ap (λ (l : List Equation). has graph a b || read l a b) (sym none) ∙ c .edges a b s t;
           };
         }

@@ -4,16 +4,14 @@ use Prim.Native.Nat.{ℕ, suc, _+_, _-_, _≤_, _<_}
 use native.Mathlib.Omega.{arith}
 use mathlib.Core.Path.{_≡_, refl}
 use mathlib.Core.Logic.{⊎-elim}
-use mathlib.Core.Bool.{true, false}
 use mathlib.Core.List.{List, [], _∷_, map}
 use lib.ListN.{length, getD, take, drop, drop-of-length-le}
 use lib.Seq.{length-take-le, drop-cons, getD-take}
 use Rattle.lustre.specs.Name.{Name}
 use Rattle.lustre.specs.Line.{named}
-use Rattle.lustre.specs.Project.{NodeKind, Function, Operator, Imported, Equation, is-function}
-use Rattle.lustre.specs.Walk.{search}
+use Rattle.lustre.specs.Project.{NodeKind, Function, Operator, Imported, Equation}
+use Rattle.lustre.specs.Walk.{search, path-of}
 use Rattle.lustre.specs.Node.{path-notes, loop-notes, cycle-notes, looks}
-use Rattle.demands.proofs.Sets.{clash}
 use Rattle.lines.specs.Lines.{Put, Noted}
 use Rattle.lines.specs.declared.Spot.{Spot}
 use Rattle.lines.proofs.Laws.{noted-none, noted-append, noted-named}
@@ -77,17 +75,10 @@ module _ {path : List ℕ} {start end : ℕ} {q : Spot} {o : List ℕ} {n i : �
 -- ---- lines and looks of a node's search
 
 module _ {num : Name → ℕ} {q : Spot} {o : List ℕ} {n : ℕ} where
-  -- a function is not searched
-  pub loops-none : (kind : NodeKind) (qs : List Equation) → is-function kind ≡ true → Noted num q (cycle-notes kind qs) o n n o × (0 ≡ looks kind qs)
-  unfolding is-function cycle-notes looks
-  loops-none Function qs h = (noted-none, refl)
-  loops-none Operator qs h = absurd (clash h refl)
-  loops-none Imported qs h = absurd (clash h refl)
-
   -- the loop that is found has its lines
   loop-found : {text : Naming} (qs : List Equation) {path : List ℕ} {start end l m : ℕ} {o′ : List ℕ} → Answers text (search qs) path start end l
-      → Noted num q (path-notes 0 (part text path start end)) o n m o′ → Noted num q (cycle-notes Operator qs) o n m o′
-  unfolding cycle-notes loop-notes path-notes
+      → Noted num q (path-notes 0 (part text path start end)) o n m o′ → Noted num q (loop-notes (path-of (search qs))) o n m o′
+  unfolding loop-notes path-notes
   loop-found {text} qs {path} {start} {end} a d =
       ⊎-elim
       (λ (e : end ≡ 0). rw (a .no-loop e) (rw (e, nothing start) at d))
@@ -97,10 +88,10 @@ module _ {num : Name → ℕ} {q : Spot} {o : List ℕ} {n : ℕ} where
       nothing : (i : ℕ) → part text path i 0 ≡ []
       nothing i = part-none text path i 0 (omega arith) (omega arith)
 
-  -- an operator has the lines and the looks of its search
-  pub loops-found : (kind : NodeKind) (qs : List Equation) {text : Naming} {path : List ℕ} {start end l m : ℕ} {o′ : List ℕ} → (kind ≡ Imported → ⊥) → is-function kind ≡ false
+  -- a node that is not imported has the lines and the looks of its search
+  pub loops-found : (kind : NodeKind) (qs : List Equation) {text : Naming} {path : List ℕ} {start end l m : ℕ} {o′ : List ℕ} → (kind ≡ Imported → ⊥)
       → Answers text (search qs) path start end l → Noted num q (path-notes 0 (part text path start end)) o n m o′ → Noted num q (cycle-notes kind qs) o n m o′ × (l ≡ looks kind qs)
-  unfolding is-function looks
-  loops-found Function qs h f a d = absurd (clash refl f)
-  loops-found Operator qs h f a d = (loop-found qs a d, a .counted)
-  loops-found Imported qs h f a d = absurd (h refl)
+  unfolding cycle-notes looks
+  loops-found Function qs h a d = (loop-found qs a d, a .counted)
+  loops-found Operator qs h a d = (loop-found qs a d, a .counted)
+  loops-found Imported qs h a d = absurd (h refl)

@@ -2,11 +2,11 @@
 -- Assumes nothing: these are definitions.
 use Prim.Native.Nat.{ℕ, _+_, _≤_, _<_}
 use mathlib.Core.Path.{_≡_}
-use mathlib.Core.Bool.{true, false}
+use mathlib.Core.Bool.{false}
 use mathlib.Core.List.{List, [], _∷_, _++_, map}
 use lib.ListN.{length}
 use Rattle.lustre.specs.Name.{_among_}
-use Rattle.lustre.specs.Project.{Port, Equation, Node, skeleton, port-names, is-function}
+use Rattle.lustre.specs.Project.{Port, Equation, Node, skeleton, port-names}
 use Rattle.lustre.specs.Line.{Note, bare}
 use Rattle.lustre.specs.Resolve.{context}
 use Rattle.lustre.specs.Deps.{defined, read-by}
@@ -55,11 +55,10 @@ pub record Node-open (ks ws sc : List ℕ) (at : ℕ) : Type 0 where
   pub node : Standing-node model n at
   pub declared : Declared model (env-of n) sc
 
--- what the check leaves of the graph: an edge for each name read in the same instant, and none in a function
+-- what the check leaves of the graph: an edge for each name read in the same instant
 pub record Graph-of {ks ws : List ℕ} (g : Model ks ws) (n : Node) (graph : List ℕ) : Type 0 where
   pub room : length graph ≡ 4096
-  pub edges : is-function (n .kind) ≡ false → (a b : ℕ) → a < 512 → b < 512 → has graph a b ≡ (g .text b among read-by (g .text a) (n .equations))
-  pub none : is-function (n .kind) ≡ true → (a b : ℕ) → a < 512 → b < 512 → has graph a b ≡ false
+  pub edges : (a b : ℕ) → a < 512 → b < 512 → has graph a b ≡ (g .text b among read-by (g .text a) (n .equations))
 
 -- what the check of all equations does
 pub record Equations-checked {ks ws : List ℕ} (g : Model ks ws) (n : Node) (list : ℕ) (q : Spot) (o : List ℕ) (m : ℕ) (r : Passed) (set′ graph′ o′ : List ℕ) : Type 0 where

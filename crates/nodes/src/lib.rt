@@ -18,7 +18,6 @@ use ports::forget_ports;
 use rules::ports::ports_end;
 ghost use Prim.Native.Nat.{ℕ, _+_, _<_, _≤_};
 ghost use mathlib.Core.Path.{_≡_};
-ghost use mathlib.Core.Bool.{true, false};
 ghost use mathlib.Core.List.{List, [], map};
 ghost use lib.ListN.{length, take, drop};
 ghost use Rattle.lustre.specs.Name.{Name};
@@ -27,30 +26,17 @@ ghost use Rattle.lustre.specs.Deps.{defined};
 ghost use Rattle.lustre.specs.Node.{path-notes, cycle-notes, looks as looks-of};
 ghost use Rattle.standing.specs.Standing.{outputs-from, locals-from, equations-from, probes-from};
 ghost use Rattle.lines.specs.Lines.{Noted};
-ghost use Rattle.loops.specs.Rows.{has};
 ghost use Rattle.loops.specs.Search.{Shows};
-ghost use Rattle.types.specs.Value.{Naming, Injective};
+ghost use Rattle.types.specs.Value.{Naming};
 ghost use Rattle.scope.specs.Names.{Numbers};
 ghost use Rattle.scope.specs.Tables.{Declared};
 ghost use Rattle.scope.specs.Sets.{Holds};
-ghost use Rattle.equations.specs.Equations.{Equation-here, Edges-added};
 ghost use Rattle.nodes.specs.Nodes.{Blank, Node-given, Node-open, Graph-of, Equations-checked, Node-opened, Node-closed, Node-checked, Imported-here, imported-notes};
 
 // The kinds of nodes that are told apart here, as document 01 numbers them.
 const FUNCTION: u8 = 10;
 
 const IMPORTED: u8 = 12;
-
-// Adds the edges of the equation at a place to the graph, unless the node is a function, which is not searched.
-fn note_edges(kinds: &[u8], words: &[u64], at: usize, function: bool, graph: &mut [u64])
-    requires { ⌜ Equation-here (now kinds) (now words) at × (length (now graph) ≡ 4096) ⌝ }
-    ensures { λ _. ⌜ (function ≡ true → now (graph .exit) ≡ now (graph .entry)) × (function ≡ false → (g : Equation-here (now (kinds .entry)) (now (words .entry)) at) → Injective (g .text) → Edges-added (g .text) (g .eq) (now (graph .entry)) (now (graph .exit))) ⌝ }
-{
-    if function {
-        return;
-    }
-    add_edges(kinds, words, at, graph);
-}
 
 // The spot of equation number e of the node at a spot.
 fn in_equation(q: Spot, equation: u64) -> Spot
@@ -88,7 +74,7 @@ fn check_equations(
     let mut m = n;
     while left > 0 {
         let p = in_equation(q, e);
-        note_edges(kinds, words, next, q.function, graph);
+        add_edges(kinds, words, next, graph);
         let r = check_equation(kinds, words, scope, next, ins, assigned, p, out, m);
         next = r.next;
         m = r.n;
@@ -119,7 +105,7 @@ pub struct Judged {
     pub looks: u64,
 }
 
-// The lines of the loop that the search finds, lib.rs 495, and the looks that it takes; none in a function. `path` is lent to the search.
+// The lines of the loop that the search finds, lib.rs 495, and the looks that it takes. `path` is lent to the search.
 fn check_loops(
     graph: &[u64],
     assigned: &[u64],
@@ -129,11 +115,8 @@ fn check_loops(
     n: u64,
 ) -> Judged
     requires { ⌜ (length (now graph) ≡ 4096) × (8 ≤ length (now assigned)) × (513 ≤ length (now path)) ⌝ }
-    ensures { λ r. ⌜ (r .looks ≤ 262144) × ((kind : NodeKind) (qs : List Equation) (text : Naming) (num : Name → ℕ) (names : ℕ) → (kind ≡ Imported → ⊥) → is-function kind ≡ q .function → Numbers text num → (is-function kind ≡ false → Shows qs text names (now (graph .entry)) (now (assigned .entry))) → Noted num q (cycle-notes kind qs) (now (out .entry)) n (r .n) (now (out .exit)) × (r .looks ≡ looks-of kind qs)) ⌝ }
+    ensures { λ r. ⌜ (r .looks ≤ 262144) × ((kind : NodeKind) (qs : List Equation) (text : Naming) (num : Name → ℕ) (names : ℕ) → (kind ≡ Imported → ⊥) → Numbers text num → Shows qs text names (now (graph .entry)) (now (assigned .entry)) → Noted num q (cycle-notes kind qs) (now (out .entry)) n (r .n) (now (out .exit)) × (r .looks ≡ looks-of kind qs)) ⌝ }
 {
-    if q.function {
-        return Judged { n, looks: 0 };
-    }
     let s = search(graph, assigned, path);
     let looks = s.looks;
     let m = loop_lines(path, s.start, s.end, q, out, n);
@@ -196,7 +179,7 @@ fn close_node(
     n: u64,
 ) -> Judged
     requires { ⌜ ((g : Node-open (now kinds) (now words) (now scope) at) × (outputs ≡ outputs-from (g .n) at) × (locals ≡ locals-from (g .n) at) × (probes ≡ probes-from (g .n) at)) × (8 ≤ length (now assigned)) × (length (now graph) ≡ 4096) × (513 ≤ length (now path)) ⌝ }
-    ensures { λ r. ⌜ (r .looks ≤ 262144) × ((g : Node-open (now (kinds .entry)) (now (words .entry)) (now (scope .entry)) at) → outputs ≡ outputs-from (g .n) at → locals ≡ locals-from (g .n) at → probes ≡ probes-from (g .n) at → (g .n .kind ≡ Imported → ⊥) → is-function (g .n .kind) ≡ q .function → Holds (g .model .text) (defined (g .n .equations)) (now (assigned .entry)) → Graph-of (g .model) (g .n) (now (graph .entry)) → Node-closed (g .model) (g .n) q (now (out .entry)) n r (now (out .exit))) ⌝ }
+    ensures { λ r. ⌜ (r .looks ≤ 262144) × ((g : Node-open (now (kinds .entry)) (now (words .entry)) (now (scope .entry)) at) → outputs ≡ outputs-from (g .n) at → locals ≡ locals-from (g .n) at → probes ≡ probes-from (g .n) at → (g .n .kind ≡ Imported → ⊥) → Holds (g .model .text) (defined (g .n .equations)) (now (assigned .entry)) → Graph-of (g .model) (g .n) (now (graph .entry)) → Node-closed (g .model) (g .n) q (now (out .entry)) n r (now (out .exit))) ⌝ }
 {
     let a = absent_ports(kinds, words, outputs, assigned, codes::E0050, q, out, n);
     let b = absent_ports(kinds, words, locals, assigned, codes::W0051, q, out, a);

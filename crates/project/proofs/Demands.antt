@@ -6,7 +6,7 @@ use native.Mathlib.Omega.{arith}
 use mathlib.Core.Path.{_≡_, refl, sym, ap, subst, _∙_}
 use mathlib.Core.Bool.{Bool, true, false}
 use mathlib.Core.List.{List, [], _∷_, _++_, map, map-map, flatMap, cons≢nil, List·Memᴰ, List·Memᴰ·head, List·Memᴰ·tail}
-use mathlib.Core.Option.{some}
+use mathlib.Core.Option.{Option, none, some}
 use lib.Dec.{eqb, leb}
 use lib.ListN.{length, drop, length-map}
 use lib.Seq.{take-all, getD-drop}
@@ -14,11 +14,11 @@ use borrow.Author.Tests.{eq-eqb}
 use Rattle.lustre.specs.Name.{Name, if_then_else_}
 use Rattle.lustre.specs.Names.{names-of}
 use Rattle.lustre.specs.Records.{Rec}
-use Rattle.lustre.specs.Project.{Project, Equation}
+use Rattle.lustre.specs.Project.{Project, NodeKind, Function, Operator, Equation}
 use Rattle.lustre.specs.Line as Report
 use Rattle.lustre.specs.Report.{report, followed, of-place}
-use Rattle.lustre.specs.Node.{path-notes, of-node}
-use Rattle.lustre.specs.Walk.{rust-search}
+use Rattle.lustre.specs.Node.{path-notes, loop-notes, of-node}
+use Rattle.lustre.specs.Walk.{dfs-search, rust-search}
 use Rattle.lustre.specs.Answer.{answer, reported, refusal-of, second-of, project-read, project-of, or-none, place-number, writes, stored, stored-report}
 use Rattle.lustre.proofs.Blank.{blank-spelled, blank-project, blank-stored, without-text, blank-reported, no-names-refused, names-refused}
 use Rattle.lustre.specs.declared.Line.{Line}
@@ -34,7 +34,7 @@ use Rattle.demands.proofs.Demand3 as Proved
 use Rattle.lines.specs.Lines.{words, room, line-in}
 use Rattle.project.specs.Call.{over-words, buffer-after}
 use Rattle.project.proofs.Answers.{answer-report, nothing-stored}
-use Rattle.project.specs.Demands.{Check, Reported, project, lines-in, lines-of, Report-of, Demand-3, Unused-names, No-records, No-stray, loop-lines, path-lines, Operator-lines, Demand-2-loops}
+use Rattle.project.specs.Demands.{Check, Reported, project, lines-in, lines-of, Report-of, Demand-3, Unused-names, No-records, No-stray, loop-lines, path-lines, shown-lines, Searched-lines, Demand-2-loops}
 
 -- ---- lines in a buffer
 
@@ -185,14 +185,19 @@ unfolding spoken path-notes path-lines of-place of-node spoken-name or-none plac
 path-spoken i k [] = refl
 path-spoken i k (x ∷ p) = rw (path-spoken i (suc k) p)
 
+notes-spoken : (i : ℕ) (o : Option (List Name)) → map spoken (map (λ m. of-place i (of-node m)) (loop-notes o)) ≡ shown-lines i o
+unfolding loop-notes shown-lines
+notes-spoken i none = refl
+notes-spoken i (some p) = path-spoken i 0 p
+
 module _ (c : Check) (r : Reported c) (i : ℕ) where
   -- the E0060 lines about node i are the report's
   loops-are : loop-lines i (lines-of c r) ≡ map spoken (Loops.loop-lines i (report (project c)))
   loops-are = ap (loop-lines i) (lines-spoken c r) ∙ loops-spoken i (report (project c))
 
-  module _ (qs : List Equation) (h : Loops.Operator-lines (project c) i qs) where
+  module _ (k : NodeKind) (qs : List Equation) (h : Loops.Searched-lines (project c) i k qs) where
     -- where there is a cycle, the lines show a closed path
-    path : Loops.Cyclic qs → (p : List Name) × Loops.Closed qs p × (loop-lines i (lines-of c r) ≡ path-lines i 0 p) × (rust-search qs ≡ some p)
+    path : Loops.Cyclic qs → (p : List Name) × Loops.Closed qs p × (loop-lines i (lines-of c r) ≡ path-lines i 0 p) × (dfs-search qs ≡ some p)
     path y =
         let found = h .path (h .exactly .1 y) in
         (found .0, found .1, loops-are ∙ ap (map spoken) (found .2) ∙ path-spoken i 0 (found .0), found .3)
@@ -209,11 +214,14 @@ module _ (c : Check) (r : Reported c) (i : ℕ) where
         let shown = found .2 ∙ ap (path-lines i 0) (found .1 .shape) in
         (_, kept-in (λ l. eqb (l .code) 60) (about i (lines-of c r)) _ _ shown, refl)
 
+    searched : Searched-lines c r i qs
+    searched = record { only-if = only-if; if-so = if-so; path = path }
+
 -- demand 2 on E0060, by that of the definition
 pub demand-2-loops : Demand-2-loops
 demand-2-loops c r i n e =
     let h = Loops-proved.demand-2-loops (project c) i n e in (
-      λ k. record { only-if = only-if c r i (n .equations) (h .0 k); if-so = if-so c r i (n .equations) (h .0 k); path = path c r i (n .equations) (h .0 k) },
-      λ k. loops-are c r i ∙ ap (map spoken) (h .1 k),
+      λ k. (searched c r i Operator (n .equations) (h .0 k .0), λ a. loops-are c r i ∙ ap (map spoken) (h .0 k .1 a) ∙ notes-spoken i (rust-search (n .equations))),
+      λ k. searched c r i Function (n .equations) (h .1 k),
       λ k. loops-are c r i ∙ ap (map spoken) (h .2 k),
     )

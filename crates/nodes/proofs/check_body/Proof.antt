@@ -63,7 +63,7 @@ returns c = λ g f other.
     let o = c .before .before .before .before .before .before .before .before .before .before .before .before .before .before .before .before .before .before .before .before .before .before .before .before .before .before .before .before .before .before .before .before .before .before .open-node .ensures g (holds-none (g .model .text)) in
     let n = opened g (o .declared) in
     let e = c .before .before .before .before .before .before .before .before .before .before .before .before .before .before .before .before .before .before .before .before .before .before .before .check-equations .ensures n (o .equations) f (c .before .before .before .before .before .before .before .before .before .before .before .before .before .before .before .before .before .before .before .before .before .before .before .before .before .before .before .before .before .before .before .before .before .before .before .before .before .before .before .before .before .before .before .before .pre .1) (o .ins) (holds-none (g .model .text)) (c .before .before .before .before .before .before .before .before .before .before .before .before .before .before .before .before .before .before .before .before .before .before .before .before .before .before .before .before .before .before .before .before .before .before .before .before .before .before .before .before .before .before .before .before .pre .3) in
-    let j = c .before .before .before .before .before .before .before .before .before .before .before .before .close-node .ensures .1 n (o .outputs) (o .locals) (omega (arith, e .next, o .equations)) other f (e .assigned) (e .graph) in
+    let j = c .before .before .before .before .before .before .before .before .before .before .before .before .close-node .ensures .1 n (o .outputs) (o .locals) (omega (arith, e .next, o .equations)) other (e .assigned) (e .graph) in
     let k = c .before .before .before .before .clear-node .ensures n (o .outputs) (o .locals) (e .assigned) (e .graph) in
     record {
       reports = body-reports (c .before .before .before .before .before .before .before .before .before .before .before .before .before .before .before .before .before .before .before .before .before .before .before .before .before .before .before .before .before .before .before .before .before .before .before .before .before .before .before .before .before .before .before .before .pre .1) (c .before .before .before .before .before .before .before .before .before .before .before .before .before .before .before .before .before .before .before .before .before .before .before .before .before .before .before .before .before .before .before .before .before .before .before .before .before .before .before .before .before .before .before .before .pre .2) (context (skeleton (g .model .P))) (g .n) other (o .noted) (e .reports) (j .noted);

@@ -41,8 +41,8 @@ loop-holds c = (refl, refl, refl, omega arith, (λ g h. ahead-start g h), λ g h
 in-equation-requires : tie.Need-in-equation-requires Inv-loop μ-loop
 in-equation-requires c κs = tt
 
-note-edges-requires : tie.Need-note-edges-requires Inv-loop μ-loop
-note-edges-requires c κs = (here-first (c .before .before .before .before .before .before .before .before .before .before .before .before .pre .0 .0) (c .before .before .before .loop .inv .4 (c .before .before .before .before .before .before .before .before .before .before .before .before .pre .0 .0) (c .before .before .before .before .before .before .before .before .before .before .before .before .pre .0 .1)) (λ z. omega (arith, c .before .before .loop-test .taken)), omega (arith, c .before .before .before .loop .inv .2, c .before .before .before .before .before .before .before .before .before .before .before .before .pre .3))
+add-edges-requires : tie.Need-add-edges-requires Inv-loop μ-loop
+add-edges-requires c κs = (here-first (c .before .before .before .before .before .before .before .before .before .before .before .before .pre .0 .0) (c .before .before .before .loop .inv .4 (c .before .before .before .before .before .before .before .before .before .before .before .before .pre .0 .0) (c .before .before .before .before .before .before .before .before .before .before .before .before .pre .0 .1)) (λ z. omega (arith, c .before .before .loop-test .taken)), omega (arith, c .before .before .before .loop .inv .2, c .before .before .before .before .before .before .before .before .before .before .before .before .pre .3))
 
 check-equation-requires : tie.Need-check-equation-requires Inv-loop μ-loop
 check-equation-requires c κs = (given-first (c .before .before .before .before .before .before .before .before .before .before .before .before .before .before .before .before .before .pre .0 .0) (c .before .before .before .before .before .before .before .before .loop .inv .4 (c .before .before .before .before .before .before .before .before .before .before .before .before .before .before .before .before .before .pre .0 .0) (c .before .before .before .before .before .before .before .before .before .before .before .before .before .before .before .before .before .pre .0 .1)) (λ z. omega (arith, c .before .before .before .before .before .before .before .loop-test .taken)), c .before .before .before .before .before .before .before .before .before .before .before .before .before .before .before .before .before .pre .1, omega (arith, c .before .before .before .before .before .before .before .before .loop .inv .1, c .before .before .before .before .before .before .before .before .before .before .before .before .before .before .before .before .before .pre .2))
@@ -67,7 +67,7 @@ loop-again c =
       (λ g at. ahead-next (l .4 g at) h (c .before .before .before .before .check-equation .ensures (given-first g (l .4 g at) h) .next) (omega arith)),
       λ g at f p i s b.
           let k = l .5 g at f p i s b in
-          checking-next g _ _ _ _ k h (c .before .before .before .before .before .before .before .before .before .before .before .in-equation .ensures) f p i (c .before .before .before .before .before .before .before .before .before .note-edges .ensures .0, λ z. c .before .before .before .before .before .before .before .before .before .note-edges .ensures .1 z (here-first g (k .ahead) h)) (c .before .before .before .before .check-equation .ensures (given-first g (k .ahead) h)) (omega arith),
+          checking-next g _ _ _ _ k h (c .before .before .before .before .before .before .before .before .before .before .before .in-equation .ensures) f p i (c .before .before .before .before .before .before .before .before .before .add-edges .ensures (here-first g (k .ahead) h)) (c .before .before .before .before .check-equation .ensures (given-first g (k .ahead) h)) (omega arith),
     )
 
 same-length : tie.Need-same-length Inv-loop μ-loop
@@ -93,7 +93,7 @@ check-equations-spec =
     add-next
     loop-holds
     in-equation-requires
-    note-edges-requires
+    add-edges-requires
     check-equation-requires
     add-e
     sub-left

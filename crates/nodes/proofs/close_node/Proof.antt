@@ -24,7 +24,7 @@ same-length-2 : tie.Need-same-length-2
 same-length-2 c = search needs
 
 returns : tie.Need-returns
-returns c = (c .before .before .before .before .before .before .before .before .check-loops .ensures .0, λ g e₁ e₂ e₃ k f h w. closed g e₁ e₂ e₃ k f h w (c .before .before .before .before .before .before .before .before .before .before .before .before .before .before .before .before .before .absent-ports .ensures) (c .before .before .before .before .before .before .before .before .before .before .before .before .before .absent-ports2 .ensures) (c .before .before .before .before .before .before .before .before .check-loops .ensures) (c .before .before .absent-probes .ensures))
+returns c = (c .before .before .before .before .before .before .before .before .check-loops .ensures .0, λ g e₁ e₂ e₃ k h w. closed g e₁ e₂ e₃ k h w (c .before .before .before .before .before .before .before .before .before .before .before .before .before .before .before .before .before .absent-ports .ensures) (c .before .before .before .before .before .before .before .before .before .before .before .before .before .absent-ports2 .ensures) (c .before .before .before .before .before .before .before .before .check-loops .ensures) (c .before .before .absent-probes .ensures))
 
 pub close-node-spec : {M : Type 1} → statement M
 close-node-spec =

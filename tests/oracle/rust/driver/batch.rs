@@ -4,7 +4,8 @@ use std::io::{BufWriter, Read, Write};
 
 use crate::records::Model;
 use crate::report::{Report, NONE};
-use crate::{answer, from_file, gen, number, read};
+use crate::walk::Rule;
+use crate::{answer, answer_by, from_file, gen, number, read};
 
 const PLACES: [&str; 5] = ["package", "enum", "type", "constant", "node"];
 const WORK: u32 = 4096;
@@ -34,9 +35,9 @@ fn printed(report: &Report, names: &[String]) -> String {
     text
 }
 
-/// The Rust's report on a file, whatever the work and room; `outside WHY` where the Rust is not compared.
-fn judged(file: &[u8]) -> String {
-    let told = from_file(file).and_then(|model| Ok((answer(&model)?, read::names_of(&model.text)?)));
+/// The report on a file, whatever the work and room; `outside WHY` where the Rust is not compared.
+fn judged(file: &[u8], rule: Rule) -> String {
+    let told = from_file(file).and_then(|model| Ok((answer_by(&model, rule)?, read::names_of(&model.text)?)));
     match told {
         Ok((report, names)) => printed(&report, &names),
         Err(why) => format!("outside {why}\n"),
@@ -44,7 +45,7 @@ fn judged(file: &[u8]) -> String {
 }
 
 /// Reads a stream from standard input and prints the answers.
-pub fn answers() -> Result<(), String> {
+pub fn answers(rule: Rule) -> Result<(), String> {
     let mut input = std::io::stdin().lock();
     let mut out = BufWriter::new(std::io::stdout().lock());
     let mut head = [0; 12];
@@ -52,7 +53,7 @@ pub fn answers() -> Result<(), String> {
         let size = u32::from_le_bytes(head[8..].try_into().unwrap()) as usize;
         let mut file = vec![0; size];
         input.read_exact(&mut file).map_err(|e| e.to_string())?;
-        writeln!(out, "{}", judged(&file)).map_err(|e| e.to_string())?;
+        writeln!(out, "{}", judged(&file, rule)).map_err(|e| e.to_string())?;
     }
     out.flush().map_err(|e| e.to_string())
 }

@@ -18,24 +18,29 @@ use std::process::exit;
 
 use records::Model;
 use report::Report;
+use walk::Rule;
 
-/// The Rust's report on a model. The project is read a second time with other names in the same
+/// The report on a model, the Rust's or that with the requests of document 02. The project is read a second time with other names in the same
 /// order (n000, n001, ..): the report must be the same, which tests that names are read off the
 /// messages rightly. Where a name holds a space only the second reading is used.
-fn answer(model: &Model) -> Result<Report, String> {
+fn answer_by(model: &Model, rule: Rule) -> Result<Report, String> {
     let names = read::names_of(&model.text)?;
     let plain: Vec<String> = (0..names.len()).map(|i| format!("n{i:03}")).collect();
-    let other = report_with(model, &plain)?;
+    let other = report_with(model, &plain, rule)?;
     if !names.iter().any(|n| n.contains(' ')) {
-        assert_eq!(report_with(model, &names)?, other, "names matter");
+        assert_eq!(report_with(model, &names, rule)?, other, "names matter");
     }
     Ok(other)
 }
 
-fn report_with(model: &Model, names: &[String]) -> Result<Report, String> {
+fn answer(model: &Model) -> Result<Report, String> {
+    answer_by(model, Rule::Amended)
+}
+
+fn report_with(model: &Model, names: &[String], rule: Rule) -> Result<Report, String> {
     let project = read::read(model, names)?;
     let numbers: HashMap<String, u64> = names.iter().cloned().zip(0..).collect();
-    Ok(report::report(&project, &numbers))
+    Ok(report::report(&project, &numbers, rule))
 }
 
 fn joined<T: ToString>(items: impl IntoIterator<Item = T>) -> String {
@@ -150,8 +155,9 @@ fn main() {
         ["codes", seed, count] => codes(seed, count),
         ["check", path] => check(path),
         ["stream", seed, count, share] => batch::stream(seed, count, share),
-        ["answers"] => batch::answers(),
-        _ => Err("usage: oracle gen SEED COUNT | codes SEED COUNT | check FILE | stream SEED COUNT SHARE | answers".into()),
+        ["answers"] => batch::answers(Rule::Amended),
+        ["unchanged"] => batch::answers(Rule::Rust),
+        _ => Err("usage: oracle gen SEED COUNT | codes SEED COUNT | check FILE | stream SEED COUNT SHARE | answers | unchanged".into()),
     };
     if let Err(why) = done {
         eprintln!("oracle: {why}");

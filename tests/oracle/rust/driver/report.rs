@@ -7,11 +7,14 @@
 //! knows which declaration and which record stands at an address, and that the Rust's own context
 //! string names the same declaration. E0008 has no declaration at hand: its place is the last alias
 //! of the name, as document 01 says.
-use std::collections::HashMap;
+//!
+//! The amended copy is the marked one with the requests of document 02 in it. The two must be equal in
+//! all that no request lets differ.
+use std::collections::{HashMap, HashSet};
 
 use ol_ir::*;
 
-use crate::walk::walk;
+use crate::walk::{walk, Rule};
 
 pub const NONE: u64 = u64::MAX;
 const PACKAGE: u64 = 0;
@@ -159,37 +162,82 @@ fn unmark(d: &mut Diagnostic) -> (usize, usize, u32) {
     (number(1), number(2), number(3) as u32)
 }
 
-/// The Rust's report on a project whose names have the numbers given; no name holds a space.
-pub fn report(project: &Project, numbers: &HashMap<String, u64>) -> Report {
-    let plain = ol_typecheck::check_project(project).diagnostics;
-    let mut marked = ol_marked::check_project(project).diagnostics;
-    let marks: Vec<_> = marked.iter_mut().map(unmark).collect();
-    assert_eq!(plain, marked, "the marked copy differs from the unchanged checker");
-    let places = Places::of(project);
-    let nodes: Vec<&NodeDef> = project.all_nodes().collect();
-    let walks: Vec<_> = nodes.iter().map(|n| walk(n)).collect();
-    let mut report = Report { lines: vec![], followed: walks.iter().map(|w| w.looks).sum(), sources: vec![] };
+/// The nodes whose E0060 request 2.6 lets differ from the Rust's: functions, and operators that hold
+/// an arrow.
+fn differs(node: &NodeDef) -> bool {
+    let mut arrow = false;
+    for eq in &node.equations {
+        eq.rhs.visit(|e| arrow |= matches!(e, Expr::Arrow { .. }));
+    }
+    match node.kind {
+        NodeKind::Function => true,
+        NodeKind::Operator => arrow,
+        NodeKind::Imported => false,
+    }
+}
+
+/// Marked diagnostics without the E0060 of the nodes where it may differ.
+fn compared(marked: &[Diagnostic], free: &HashSet<usize>) -> Vec<Diagnostic> {
+    let stays = |d: &&Diagnostic| d.code != "E0060" || !free.contains(&unmark(&mut (*d).clone()).0);
+    marked.iter().filter(stays).cloned().collect()
+}
+
+/// The names of the loop that each node is shown.
+fn loops_of(marked: &[Diagnostic], nodes: &[&NodeDef]) -> Vec<Option<Vec<String>>> {
     let mut loops = vec![None; nodes.len()];
-    for (d, mark) in plain.iter().zip(&marks) {
-        let line = place_of(d, mark, &places);
+    for d in marked.iter().filter(|d| d.code == "E0060") {
+        let at = unmark(&mut d.clone()).0;
+        let i = nodes.iter().position(|n| address(*n) == at).expect("a node");
+        assert!(loops[i].is_none(), "two loops in a node");
+        loops[i] = Some(loop_names(&d.message));
+    }
+    loops
+}
+
+/// The diagnostics with their marks, of the marked copy or of the amended one, which are held to the
+/// unchanged checker and to each other.
+fn diagnostics(project: &Project, nodes: &[&NodeDef], rule: Rule) -> Vec<Diagnostic> {
+    let plain = ol_typecheck::check_project(project).diagnostics;
+    let marked = ol_marked::check_project(project).diagnostics;
+    let amended = ol_amended::check_project(project).diagnostics;
+    let free = nodes.iter().filter(|n| differs(n)).map(|n| address(*n)).collect();
+    assert_eq!(compared(&marked, &free), compared(&amended, &free), "more differs than request 2.6 says");
+    for (rule, found) in [(Rule::Rust, &marked), (Rule::Amended, &amended)] {
+        let walked: Vec<_> = nodes.iter().map(|n| walk(n, rule).path).collect();
+        assert_eq!(loops_of(found, nodes), walked, "the walk's loops differ from the Rust's");
+    }
+    let mut unmarked = marked.clone();
+    unmarked.iter_mut().for_each(|d| drop(unmark(d)));
+    assert_eq!(plain, unmarked, "the marked copy differs from the unchanged checker");
+    match rule {
+        Rule::Rust => marked,
+        Rule::Amended => amended,
+    }
+}
+
+/// The report on a project whose names have the numbers given: the Rust's, or that with the requests of
+/// document 02. No name holds a space.
+pub fn report(project: &Project, numbers: &HashMap<String, u64>, rule: Rule) -> Report {
+    let nodes: Vec<&NodeDef> = project.all_nodes().collect();
+    let places = Places::of(project);
+    let followed = nodes.iter().map(|n| walk(n, rule).looks).sum();
+    let mut report = Report { lines: vec![], followed, sources: vec![] };
+    for mut d in diagnostics(project, &nodes, rule) {
+        let mark = unmark(&mut d);
+        let line = place_of(&d, &mark, &places);
         let mut add = |line| {
             report.lines.push(line);
             report.sources.push(mark.2);
         };
         let number = |name: &str| *numbers.get(name).expect("a name of the model");
         if line.code == 60 {
-            let path = loop_names(&d.message);
-            for (i, name) in path.iter().enumerate() {
+            for (i, name) in loop_names(&d.message).iter().enumerate() {
                 add(Line { step: i as u64, name: number(name), ..line.clone() });
             }
-            loops[line.number as usize] = Some(path);
         } else {
-            let name = name_in(d, &line, &nodes).map_or(NONE, |n| number(&n));
+            let name = name_in(&d, &line, &nodes).map_or(NONE, |n| number(&n));
             add(Line { name, ..line });
         }
-    }
-    for (found, walked) in loops.iter().zip(&walks) {
-        assert_eq!(*found, walked.path, "the walk's loop differs from the Rust's");
     }
     report
 }

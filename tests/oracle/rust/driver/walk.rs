@@ -1,6 +1,6 @@
-//! The number of edges followed, which the Rust doesn't give. Written from document 01 alone, with
-//! an explicit stack, and independent of the Rust's search: the driver compares the loop found
-//! here with the Rust's as well.
+//! The number of edges followed, which the Rust doesn't give. Written from documents 01 and 02 alone,
+//! with an explicit stack, and independent of the Rust's search: the driver compares the loops found
+//! here with the Rust's as well, and with those of its amended copy.
 use std::collections::{BTreeMap, BTreeSet};
 
 use ol_ir::*;
@@ -14,9 +14,18 @@ pub struct Walked {
 
 type Graph<'a> = BTreeMap<&'a str, BTreeSet<&'a str>>;
 
-/// The names that an expression reads in the same instant: none under `pre`, none in the body of
-/// an arrow; the clocks of `when` and `merge` are read.
-fn reads<'a>(rhs: &'a Expr, out: &mut BTreeSet<&'a str>) {
+/// Whose graph is walked.
+#[derive(Clone, Copy, PartialEq)]
+pub enum Rule {
+    /// The Rust's and document 01's: names in the body of an arrow are not read, functions are not searched.
+    Rust,
+    /// Request 2.6: they are.
+    Amended,
+}
+
+/// The names that an expression reads in the same instant: none under `pre`; the clocks of `when`
+/// and `merge` are read.
+fn reads<'a>(rhs: &'a Expr, rule: Rule, out: &mut BTreeSet<&'a str>) {
     let mut stack = vec![rhs];
     while let Some(e) = stack.pop() {
         match e {
@@ -24,7 +33,12 @@ fn reads<'a>(rhs: &'a Expr, out: &mut BTreeSet<&'a str>) {
             Expr::Var { name } => {
                 out.insert(name);
             }
-            Expr::Arrow { init, .. } => stack.push(init),
+            Expr::Arrow { init, body } => {
+                stack.push(init);
+                if rule == Rule::Amended {
+                    stack.push(body);
+                }
+            }
             Expr::When { arg, clock, .. } => {
                 out.insert(clock);
                 stack.push(arg);
@@ -53,13 +67,18 @@ fn reads<'a>(rhs: &'a Expr, out: &mut BTreeSet<&'a str>) {
     }
 }
 
-/// The search of one node; a function or an imported node is not searched.
-pub fn walk(node: &NodeDef) -> Walked {
+/// The search of one node; an imported node is not searched.
+pub fn walk(node: &NodeDef, rule: Rule) -> Walked {
+    let searched = match node.kind {
+        NodeKind::Operator => true,
+        NodeKind::Function => rule == Rule::Amended,
+        NodeKind::Imported => false,
+    };
     let mut graph: Graph = BTreeMap::new();
-    if matches!(node.kind, NodeKind::Operator) {
+    if searched {
         for eq in &node.equations {
             for name in &eq.lhs {
-                reads(&eq.rhs, graph.entry(name).or_default());
+                reads(&eq.rhs, rule, graph.entry(name).or_default());
             }
         }
     }
