@@ -1,57 +1,68 @@
 -- The Rust's graph, which has no edge into the body of an arrow, and the one that is searched: each edge of the first is one of the second,
 -- and where no arrow stands in the equations they are the same.
 -- Assumes nothing.
+use Prim.Native.Nat.{ℕ, _+_}
 use mathlib.Core.Path.{_≡_, refl, sym, ap, subst}
 use mathlib.Core.Logic.{⊎-elim}
 use mathlib.Core.List.{List, [], _∷_, _++_, List·Memᴰ, List·Memᴰ·head, List·Memᴰ·tail, List·Memᴰ·append-cases, Memᴰ·append-left, Memᴰ·append-right, Memᴰ·of-map}
 use Rattle.lustre.specs.Name.{Name}
-use Rattle.lustre.specs.Expr.{Expr, Exprs, Inits, const, var, unary, binary, ite, pre, arrow, call, field, index, tuple, array, struct, cast, when, merge, iterate, iterate-from, []ᵉ, _∷ᵉ_, []ⁱ, init}
+use Rattle.lustre.specs.Expr.{Expr, Exprs, Inits, size, visit, visits, visitsⁱ, const, var, unary, binary, ite, pre, arrow, call, field, index, tuple, array, struct, cast, when, merge, iterate, iterate-from, []ᵉ, _∷ᵉ_, []ⁱ, init}
 use Rattle.lustre.specs.Project.{Equation}
 use Rattle.lustre.specs.Deps.{reads, reads-each, reads-eachⁱ, initial-sides, initial-sides-each, initial-sides-eachⁱ, rust-reads, rust-equations}
-use Rattle.demands.specs.Loops.{Edge, Along, Arrowless, Arrowless-each, Arrowless-eachⁱ, No-arrows, Same-reads, Rust-loops}
+use Rattle.demands.specs.Loops.{Edge, Along, Without-arrow, No-arrows, Same-reads, Rust-loops}
+
+-- where no arrow is among expressions, none is among some of them
+others : {x : ℕ × Expr} {xs : List (ℕ × Expr)} → Without-arrow (x ∷ xs) → Without-arrow xs
+others h at i b m = h at i b (List·Memᴰ·tail m)
+
+parts : (xs : List (ℕ × Expr)) {ys : List (ℕ × Expr)} → Without-arrow (xs ++ ys) → Without-arrow xs × Without-arrow ys
+parts xs {ys} h = ((λ at i b m. h at i b (Memᴰ·append-left ys m)), λ at i b m. h at i b (Memᴰ·append-right xs m))
 
 -- an expression without an arrow is as the Rust reads it
 mutual
-  unfolding initial-sides Arrowless
+  unfolding initial-sides visit
 
-  same-sides : (e : Expr) → Arrowless e → initial-sides e ≡ e
-  same-sides (const l w) h = refl
-  same-sides (var x) h = refl
-  same-sides (unary o e) h = rw (same-sides e h)
-  same-sides (binary o l r) h = rw (same-sides l (h .0), same-sides r (h .1))
-  same-sides (ite c t e) h = rw (same-sides c (h .0), same-sides t (h .1), same-sides e (h .2))
-  same-sides (pre e) h = rw (same-sides e h)
-  same-sides (arrow i b) h = absurd h
-  same-sides (call f es) h = rw (same-sides-each es h)
-  same-sides (field x e) h = rw (same-sides e h)
-  same-sides (index b i) h = rw (same-sides b (h .0), same-sides i (h .1))
-  same-sides (tuple es) h = rw (same-sides-each es h)
-  same-sides (array es) h = rw (same-sides-each es h)
-  same-sides (struct n is) h = rw (same-sides-eachⁱ is h)
-  same-sides (cast t e) h = rw (same-sides e h)
-  same-sides (when on c e) h = rw (same-sides e h)
-  same-sides (merge c t f) h = rw (same-sides t (h .0), same-sides f (h .1))
-  same-sides (iterate k f es) h = rw (same-sides-each es h)
-  same-sides (iterate-from k f s es) h = rw (same-sides s (h .0), same-sides-each es (h .1))
+  same-sides : (at : ℕ) (e : Expr) → Without-arrow (visit at e) → initial-sides e ≡ e
+  same-sides at (const l w) h = refl
+  same-sides at (var x) h = refl
+  same-sides at (unary o e) h = rw (same-sides (at + 1) e (others h))
+  same-sides at (binary o l r) h = let k = parts (visit (at + 1) l) (others h) in rw (same-sides (at + 1) l (k .0), same-sides _ r (k .1))
+  same-sides at (ite c t e) h =
+      let k = parts (visit (at + 1) c ++ visit (at + 1 + size c) t) (others h) in
+      let l = parts (visit (at + 1) c) (k .0) in
+      rw (same-sides (at + 1) c (l .0), same-sides _ t (l .1), same-sides _ e (k .1))
+  same-sides at (pre e) h = rw (same-sides (at + 1) e (others h))
+  same-sides at (arrow i b) h = absurd (h at i b (List·Memᴰ·head refl))
+  same-sides at (call f es) h = rw (same-sides-each (at + 2) es (others h))
+  same-sides at (field x e) h = rw (same-sides (at + 1) e (others h))
+  same-sides at (index b i) h = let k = parts (visit (at + 1) b) (others h) in rw (same-sides (at + 1) b (k .0), same-sides _ i (k .1))
+  same-sides at (tuple es) h = rw (same-sides-each (at + 1) es (others h))
+  same-sides at (array es) h = rw (same-sides-each (at + 1) es (others h))
+  same-sides at (struct n is) h = rw (same-sides-eachⁱ (at + 2) is (others h))
+  same-sides at (cast t e) h = rw (same-sides _ e (others h))
+  same-sides at (when on c e) h = rw (same-sides (at + 1) e (others h))
+  same-sides at (merge c t f) h = let k = parts (visit (at + 1) t) (others h) in rw (same-sides (at + 1) t (k .0), same-sides _ f (k .1))
+  same-sides at (iterate k f es) h = rw (same-sides-each (at + 2) es (others h))
+  same-sides at (iterate-from k f s es) h = let l = parts (visit (at + 1) s) (others h) in rw (same-sides (at + 1) s (l .0), same-sides-each _ es (l .1))
 
-  same-sides-each : (es : Exprs) → Arrowless-each es → initial-sides-each es ≡ es
-  same-sides-each []ᵉ h = refl
-  same-sides-each (e ∷ᵉ es) h = rw (same-sides e (h .0), same-sides-each es (h .1))
+  same-sides-each : (at : ℕ) (es : Exprs) → Without-arrow (visits at es) → initial-sides-each es ≡ es
+  same-sides-each at []ᵉ h = refl
+  same-sides-each at (e ∷ᵉ es) h = let k = parts (visit at e) h in rw (same-sides at e (k .0), same-sides-each _ es (k .1))
 
-  same-sides-eachⁱ : (is : Inits) → Arrowless-eachⁱ is → initial-sides-eachⁱ is ≡ is
-  same-sides-eachⁱ []ⁱ h = refl
-  same-sides-eachⁱ (init x e is) h = rw (same-sides e (h .0), same-sides-eachⁱ is (h .1))
+  same-sides-eachⁱ : (at : ℕ) (is : Inits) → Without-arrow (visitsⁱ at is) → initial-sides-eachⁱ is ≡ is
+  same-sides-eachⁱ at []ⁱ h = refl
+  same-sides-eachⁱ at (init x e is) h = let k = parts (visit (at + 1) e) h in rw (same-sides (at + 1) e (k .0), same-sides-eachⁱ _ is (k .1))
 
 -- and reads the same names
 pub same-reads : Same-reads
 unfolding rust-reads
-same-reads e h = ap reads (same-sides e h)
+same-reads e h = ap reads (same-sides 0 e h)
 
 -- equations without arrows are as the Rust reads them
 pub same-equations : (qs : List Equation) → No-arrows qs → rust-equations qs ≡ qs
 unfolding rust-equations
 same-equations [] h = refl
-same-equations (q ∷ qs) h = rw (same-sides (q .rhs) (h .0), same-equations qs (h .1))
+same-equations (q ∷ qs) h = rw (same-sides 0 (q .rhs) (h .0), same-equations qs (h .1))
 
 -- a member of two lists joined, where what is in each is in another
 joined : {x : Name} {xs ys xs′ ys′ : List Name} → (List·Memᴰ x xs → List·Memᴰ x xs′) → (List·Memᴰ x ys → List·Memᴰ x ys′) → List·Memᴰ x (xs ++ ys) → List·Memᴰ x (xs′ ++ ys′)

@@ -8,7 +8,7 @@ use mathlib.Core.Option.{some}
 use lib.Dec.{eqb}
 use lib.ListN.{length, getElem?}
 use Rattle.lustre.specs.Name.{Name}
-use Rattle.lustre.specs.Expr.{Expr, Exprs, Inits, const, var, unary, binary, ite, pre, arrow, call, field, index, tuple, array, struct, cast, when, merge, iterate, iterate-from, []ᵉ, _∷ᵉ_, []ⁱ, init}
+use Rattle.lustre.specs.Expr.{Expr, arrow, visit}
 use Rattle.lustre.specs.Project.{Equation, NodeKind, Node, Function, Operator, Imported, Project, all-nodes}
 use Rattle.lustre.specs.Line.{Line}
 use Rattle.lustre.specs.Deps.{reads, rust-reads, rust-equations}
@@ -56,37 +56,15 @@ loop-lines i ls = keep (λ l. eqb (l .remark .note .code) 60) (about-node i ls)
 abbrev pub path-lines : ℕ → List Name → List Line
 path-lines i c = map (λ m. of-place i (of-node m)) (path-notes 0 c)
 
--- no arrow stands in an expression
-unfoldable mutual
-  pub Arrowless : Expr → Type 0
-  Arrowless (const l w) = Unit {0}
-  Arrowless (var x) = Unit {0}
-  Arrowless (unary o e) = Arrowless e
-  Arrowless (binary o l r) = Arrowless l × Arrowless r
-  Arrowless (ite c t e) = Arrowless c × Arrowless t × Arrowless e
-  Arrowless (pre e) = Arrowless e
-  Arrowless (arrow i b) = ⊥
-  Arrowless (call f es) = Arrowless-each es
-  Arrowless (field x e) = Arrowless e
-  Arrowless (index b i) = Arrowless b × Arrowless i
-  Arrowless (tuple es) = Arrowless-each es
-  Arrowless (array es) = Arrowless-each es
-  Arrowless (struct n is) = Arrowless-eachⁱ is
-  Arrowless (cast t e) = Arrowless e
-  Arrowless (when on c e) = Arrowless e
-  Arrowless (merge c t f) = Arrowless t × Arrowless f
-  Arrowless (iterate k f es) = Arrowless-each es
-  Arrowless (iterate-from k f s es) = Arrowless s × Arrowless-each es
+-- no arrow among expressions with their steps
+abbrev pub Without-arrow : List (ℕ × Expr) → Type 0
+Without-arrow es = (at : ℕ) (i b : Expr) → List·Memᴰ (at, arrow i b) es → ⊥
 
-  pub Arrowless-each : Exprs → Type 0
-  Arrowless-each []ᵉ = Unit {0}
-  Arrowless-each (e ∷ᵉ es) = Arrowless e × Arrowless-each es
+-- no arrow stands in an expression, under a pre neither: `Expr::visit` shows none
+abbrev pub Arrowless : Expr → Type 0
+Arrowless e = Without-arrow (visit 0 e)
 
-  pub Arrowless-eachⁱ : Inits → Type 0
-  Arrowless-eachⁱ []ⁱ = Unit {0}
-  Arrowless-eachⁱ (init x e is) = Arrowless e × Arrowless-eachⁱ is
-
--- no arrow stands in the equations
+-- nor in equations
 abbrev pub No-arrows : List Equation → Type 0
 No-arrows = Each (λ (q : Equation). Arrowless (q .rhs))
 

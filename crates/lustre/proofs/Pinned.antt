@@ -277,7 +277,7 @@ loops =
     gives loop 0 on "b" ∷ loop 1 on "c" ∷ loop 2 on "d" ∷ loop 3 on "b" ∷ [] following 4)
     ∷ (graph ("a" ∷ "b" ∷ "c" ∷ "d" ∷ "e" ∷ []) ("a" ≔ v "b" ∷ "b" ≔ v "c" ∷ "c" ≔ v "d" ∷ "d" ≔ v "e" ∷ "e" ≔ v "a" ∷ [])
     gives loop 0 on "a" ∷ loop 1 on "b" ∷ loop 2 on "c" ∷ loop 3 on "d" ∷ loop 4 on "e" ∷ loop 5 on "a" ∷ [] following 5)
-    -- the search of an operator stops at its first loop
+    -- the search of a node stops at its first loop
     ∷ (graph ("a" ∷ "b" ∷ []) ("a" ≔ v "a" ∷ "b" ≔ v "b" ∷ []) gives loop 0 on "a" ∷ loop 1 on "a" ∷ [] following 1)
     -- a cleared name is looked at, and not entered again; nor is it a start
     ∷ (graph ("a" ∷ "b" ∷ []) ("a" ≔ v "b" ∷ "b" ≔ v "i" ∷ []) gives [] following 2)

@@ -108,6 +108,6 @@ unfoldable pub looks-all : List Node → ℕ
 looks-all [] = 0
 looks-all (n ∷ ns) = looks (n .kind) (n .equations) + looks-all ns
 
--- the number of edges followed, over all operators
+-- the number of edges followed, over all operators and functions
 unfoldable pub followed : Project → ℕ
 followed P = looks-all (all-nodes P)
