@@ -9,7 +9,7 @@ use Rattle.lustre.specs.Name.{Name}
 use Rattle.lustre.specs.Expr.{Expr, Exprs, Inits, size, visit, visits, visitsⁱ, const, var, unary, binary, ite, pre, arrow, call, field, index, tuple, array, struct, cast, when, merge, iterate, iterate-from, []ᵉ, _∷ᵉ_, []ⁱ, init}
 use Rattle.lustre.specs.Project.{Equation}
 use Rattle.lustre.specs.Deps.{reads, reads-each, reads-eachⁱ, initial-sides, initial-sides-each, initial-sides-eachⁱ, rust-reads, rust-equations}
-use Rattle.demands.specs.Loops.{Edge, Along, Without-arrow, No-arrows, Same-reads, Rust-loops}
+use Rattle.demands.specs.Loops.{Edge, Along, Closed, Without-arrow, No-arrows, Same-reads}
 
 -- where no arrow is among expressions, none is among some of them
 others : {x : ℕ × Expr} {xs : List (ℕ × Expr)} → Without-arrow (x ∷ xs) → Without-arrow xs
@@ -118,6 +118,6 @@ module _ (qs : List Equation) where
   rust-along x [] h = tt
   rust-along x (y ∷ l) h = (rust-edge x y (h .0), rust-along y l (h .1))
 
--- so no loop of the Rust is lost
-pub rust-loops : Rust-loops
-rust-loops qs c k = record { first = k .first; between = k .between; shape = k .shape; steps = rust-along qs (k .first) (k .between ++ (k .first ∷ [])) (k .steps) }
+  -- so a closed path of the Rust's graph is one of the other
+  pub rust-closed : (c : List Name) → Closed (rust-equations qs) c → Closed qs c
+  rust-closed c k = record { first = k .first; between = k .between; shape = k .shape; steps = rust-along (k .first) (k .between ++ (k .first ∷ [])) (k .steps) }

@@ -2,7 +2,7 @@
 -- same, and it looks at most once along each edge. Assumes nothing.
 use Prim.Native.Nat.{_≤_}
 use native.Mathlib.Nat.{le-refl}
-use mathlib.Core.Path.{_≡_, refl, sym, ap, subst}
+use mathlib.Core.Path.{_≡_, refl, sym, ap, subst, _∙_}
 use mathlib.Core.Logic.{⊎-elim}
 use mathlib.Core.Bool.{Bool, true, false}
 use mathlib.Core.List.{List, [], _∷_, _++_, List·Memᴰ, List·Memᴰ·head, List·Memᴰ·tail, List·Memᴰ·not-nil, List·Memᴰ·append-cases, Memᴰ·cast, Memᴰ·append-left, Memᴰ·append-right, Memᴰ·map, Memᴰ·of-map}
@@ -10,11 +10,11 @@ use mathlib.Core.Option.{none, some}
 use lib.ListN.{length}
 use Rattle.lustre.specs.Name.{Name, _is_, _among_, set-of, if_then_else_}
 use Rattle.lustre.specs.Project.{Equation}
-use Rattle.lustre.specs.Deps.{reads, defined, read-in, read-by, successors}
+use Rattle.lustre.specs.Deps.{reads, defined, read-in, read-by, successors, rust-equations}
 use Rattle.lustre.specs.Walk.{path-of, looks-of, graph-names, search, dfs-search, rust-search}
-use Rattle.demands.specs.Loops.{Edge, Along, Closed, Distinct, Edges, No-arrows}
+use Rattle.demands.specs.Loops.{Edge, Along, Closed, Distinct, Edges, No-arrows, Rust-loops}
 use Rattle.demands.proofs.Sets.{mem-in, in-mem}
-use Rattle.demands.proofs.Arrows.{same-equations}
+use Rattle.demands.proofs.Arrows.{same-equations, rust-closed}
 use Rattle.demands.proofs.Graphs.{Chain}
 use Rattle.demands.proofs.Orders.{is-test, in-set, set-in, set-distinct}
 use Rattle.demands.proofs.Search.{row, pairs, Walked, walked}
@@ -116,6 +116,11 @@ module _ (qs : List Equation) where
   pub search-rust : No-arrows qs → rust-search qs ≡ path-of (search qs)
   unfolding rust-search
   search-rust h = rw (same-equations qs h) search-dfs
+
+-- no loop of the Rust is lost
+pub rust-loops : Rust-loops
+unfolding rust-search
+rust-loops qs c e = rust-closed qs c (search-closed (rust-equations qs) c (sym (search-dfs (rust-equations qs)) ∙ e))
 
 -- two lists without repetition that have nothing in common, one behind the other
 distinct-append : {X : Type 0} (s t : List X) → Distinct s → Distinct t → ((x : X) → List·Memᴰ x s → List·Memᴰ x t → ⊥) → Distinct (s ++ t)

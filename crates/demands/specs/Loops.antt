@@ -11,7 +11,7 @@ use Rattle.lustre.specs.Name.{Name}
 use Rattle.lustre.specs.Expr.{Expr, arrow, visit}
 use Rattle.lustre.specs.Project.{Equation, NodeKind, Node, Function, Operator, Imported, Project, all-nodes}
 use Rattle.lustre.specs.Line.{Line}
-use Rattle.lustre.specs.Deps.{reads, rust-reads, rust-equations}
+use Rattle.lustre.specs.Deps.{reads, rust-reads}
 use Rattle.lustre.specs.Walk.{search, dfs-search, rust-search, path-of}
 use Rattle.lustre.specs.Node.{path-notes, loop-notes, looks, of-node}
 use Rattle.lustre.specs.Report.{report, of-place}
@@ -94,6 +94,6 @@ Demand-2-loops = (P : Project) (i : ℕ) (n : Node) → getElem? (all-nodes P) i
 abbrev pub Same-reads : Type 0
 Same-reads = (e : Expr) → Arrowless e → rust-reads e ≡ reads e
 
--- no loop of the Rust is lost: each of its edges is an edge, so that a closed path in its graph is one here
+-- no loop of the Rust is lost: each edge of its graph is an edge, so that the path that it shows is a closed path here too
 abbrev pub Rust-loops : Type 0
-Rust-loops = (qs : List Equation) (c : List Name) → Closed (rust-equations qs) c → Closed qs c
+Rust-loops = (qs : List Equation) (c : List Name) → rust-search qs ≡ some c → Closed qs c
