@@ -122,7 +122,7 @@ searched c r i qs o =
 pub demand-2-loops : Demand-2-loops
 demand-2-loops c r i n e =
     let h = Words-proved.demand-2-loops (on-words c) (reported c r) i n e in (
-      λ k. (searched c r i (n .equations) (h .0 k .0), λ a. ap (loop-lines i) (as-words c r) ∙ h .0 k .1 a),
+      λ k. record { searched = searched c r i (n .equations) (h .0 k .searched); rust = λ a. ap (loop-lines i) (as-words c r) ∙ h .0 k .rust a },
       λ k. searched c r i (n .equations) (h .1 k),
       λ k. ap (loop-lines i) (as-words c r) ∙ h .2 k,
     )

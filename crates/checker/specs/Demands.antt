@@ -104,11 +104,15 @@ pub record Searched-lines (c : Check) (r : Reported c) (i : ℕ) (qs : List Equa
   -- these lines are then together one closed path, the one that the Rust's `dfs` finds in the same graph
   pub path : Cyclic qs → (p : List Name) × Closed qs p × (loop-lines i (lines-of c r) ≡ path-lines i 0 p) × (dfs-search qs ≡ some p)
 
--- Demand 2 on E0060, with request 2.6, of node i of a call that gets a report: where no arrow stands in an operator, its lines are those of
--- the path that the Rust finds; an imported node gets none.
+-- what holds of an operator besides
+pub record Operator-lines (c : Check) (r : Reported c) (i : ℕ) (qs : List Equation) : Type 0 where
+  pub searched : Searched-lines c r i qs
+  -- where no arrow stands in its equations, its lines are those of the path that the Rust finds
+  pub rust : No-arrows qs → loop-lines i (lines-of c r) ≡ shown-lines i (rust-search qs)
+
+-- Demand 2 on E0060, with request 2.6, of node i of a call that gets a report; an imported node gets none.
 abbrev pub Demand-2-loops : Type 0
 Demand-2-loops = (c : Check) (r : Reported c) (i : ℕ) (n : Node) → getElem? (all-nodes (project c)) i ≡ some n
-    → (n .kind ≡ Operator → Searched-lines c r i (n .equations)
-    × (No-arrows (n .equations) → loop-lines i (lines-of c r) ≡ shown-lines i (rust-search (n .equations))))
+    → (n .kind ≡ Operator → Operator-lines c r i (n .equations))
     × (n .kind ≡ Function → Searched-lines c r i (n .equations))
     × (n .kind ≡ Imported → loop-lines i (lines-of c r) ≡ [])

@@ -8,7 +8,7 @@ use mathlib.Core.List.{List, [], _∷_, _++_, List·Memᴰ, List·Memᴰ·head, 
 use Rattle.lustre.specs.Name.{Name}
 use Rattle.lustre.specs.Expr.{Expr, Exprs, Inits, size, visit, visits, visitsⁱ, const, var, unary, binary, ite, pre, arrow, call, field, index, tuple, array, struct, cast, when, merge, iterate, iterate-from, []ᵉ, _∷ᵉ_, []ⁱ, init}
 use Rattle.lustre.specs.Project.{Equation}
-use Rattle.lustre.specs.Deps.{reads, reads-each, reads-eachⁱ, initial-sides, initial-sides-each, initial-sides-eachⁱ, rust-reads, rust-equations}
+use Rattle.lustre.specs.Deps.{reads, reads-each, reads-eachⁱ, initial-sides, initial-sides-each, initial-sides-eachⁱ, rust-reads, rust-equation, rust-equations}
 use Rattle.demands.specs.Loops.{Edge, Along, Closed, Without-arrow, No-arrows, Same-reads}
 
 -- where no arrow is among expressions, none is among some of them
@@ -60,7 +60,7 @@ same-reads e h = ap reads (same-sides 0 e h)
 
 -- equations without arrows are as the Rust reads them
 pub same-equations : (qs : List Equation) → No-arrows qs → rust-equations qs ≡ qs
-unfolding rust-equations
+unfolding rust-equations rust-equation
 same-equations [] h = refl
 same-equations (q ∷ qs) h = rw (same-sides 0 (q .rhs) (h .0), same-equations qs (h .1))
 
@@ -108,9 +108,9 @@ module _ (x : Name) where
 module _ (qs : List Equation) where
   -- each edge of the Rust's graph is an edge
   rust-edge : (a b : Name) → Edge (rust-equations qs) a b → Edge qs a b
-  unfolding rust-equations
+  unfolding rust-equations rust-equation
   rust-edge a b (p, i, m, n) =
-      let o = Memᴰ·of-map (λ (q : Equation). record { lhs = q .lhs; rhs = initial-sides (q .rhs) }) qs i in
+      let o = Memᴰ·of-map rust-equation qs i in
       (o .0, o .1, subst (λ (q : Equation). List·Memᴰ a (q .lhs)) (sym (o .2)) m, still-read b (o .0 .rhs) (subst (λ (q : Equation). List·Memᴰ b (reads (q .rhs))) (sym (o .2)) n))
 
   rust-along : (x : Name) (l : List Name) → Along (rust-equations qs) x l → Along qs x l

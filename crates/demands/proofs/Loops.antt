@@ -275,7 +275,10 @@ module _ (P : Project) (i : ℕ) (n : Node) (here : getElem? (all-nodes P) i ≡
 pub demand-2-loops : Demand-2-loops
 unfolding cycle-notes looks
 demand-2-loops P i n here = (
-  λ e. (searched-lines P i n here Operator e refl refl, λ a. lines-shown P i n here Operator e refl refl (rust-search (n .equations)) (sym (search-rust (n .equations) a))),
+  λ e. record {
+    searched = searched-lines P i n here Operator e refl refl;
+    rust = λ a. lines-shown P i n here Operator e refl refl (rust-search (n .equations)) (sym (search-rust (n .equations) a));
+  },
   λ e. searched-lines P i n here Function e refl refl,
   λ e. none-are P i n here Imported e refl,
 )

@@ -83,10 +83,16 @@ pub record Searched-lines (P : Project) (i : ℕ) (k : NodeKind) (qs : List Equa
 abbrev pub rust-lines : ℕ → List Equation → List Line
 rust-lines i qs = map (λ m. of-place i (of-node m)) (loop-notes (rust-search qs))
 
--- demand 2 on E0060; where no arrow stands in an operator, its lines are the Rust's
+-- what holds of an operator besides
+pub record Operator-lines (P : Project) (i : ℕ) (qs : List Equation) : Type 0 where
+  pub searched : Searched-lines P i Operator qs
+  -- where no arrow stands in its equations, its lines are the Rust's
+  pub rust : No-arrows qs → loop-lines i (report P) ≡ rust-lines i qs
+
+-- demand 2 on E0060
 abbrev pub Demand-2-loops : Type 0
 Demand-2-loops = (P : Project) (i : ℕ) (n : Node) → getElem? (all-nodes P) i ≡ some n
-    → (n .kind ≡ Operator → Searched-lines P i Operator (n .equations) × (No-arrows (n .equations) → loop-lines i (report P) ≡ rust-lines i (n .equations)))
+    → (n .kind ≡ Operator → Operator-lines P i (n .equations))
     × (n .kind ≡ Function → Searched-lines P i Function (n .equations))
     × (n .kind ≡ Imported → loop-lines i (report P) ≡ [])
 

@@ -87,6 +87,9 @@ unfoldable mutual
 unfoldable pub rust-reads : Expr → List Name
 rust-reads e = reads (initial-sides e)
 
--- equations whose graph is the one that the Rust makes of the equations given
+-- the equation that the Rust takes an equation for, and equations whose graph is the one that it makes
+unfoldable pub rust-equation : Equation → Equation
+rust-equation q = record { lhs = q .lhs; rhs = initial-sides (q .rhs) }
+
 unfoldable pub rust-equations : List Equation → List Equation
-rust-equations qs = map (λ q. record { lhs = q .lhs; rhs = initial-sides (q .rhs) }) qs
+rust-equations qs = map rust-equation qs

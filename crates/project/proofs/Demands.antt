@@ -221,7 +221,10 @@ module _ (c : Check) (r : Reported c) (i : ℕ) where
 pub demand-2-loops : Demand-2-loops
 demand-2-loops c r i n e =
     let h = Loops-proved.demand-2-loops (project c) i n e in (
-      λ k. (searched c r i Operator (n .equations) (h .0 k .0), λ a. loops-are c r i ∙ ap (map spoken) (h .0 k .1 a) ∙ notes-spoken i (rust-search (n .equations))),
+      λ k. record {
+        searched = searched c r i Operator (n .equations) (h .0 k .searched);
+        rust = λ a. loops-are c r i ∙ ap (map spoken) (h .0 k .rust a) ∙ notes-spoken i (rust-search (n .equations));
+      },
       λ k. searched c r i Function (n .equations) (h .1 k),
       λ k. loops-are c r i ∙ ap (map spoken) (h .2 k),
     )

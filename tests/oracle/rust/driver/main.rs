@@ -20,9 +20,10 @@ use records::Model;
 use report::Report;
 use walk::Rule;
 
-/// The report on a model, the Rust's or that with the requests of document 02. The project is read a second time with other names in the same
-/// order (n000, n001, ..): the report must be the same, which tests that names are read off the
-/// messages rightly. Where a name holds a space only the second reading is used.
+/// The report on a model, the Rust's or that with the requests of document 02. The project is read a
+/// second time with other names in the same order (n000, n001, ..): the report must be the same, which
+/// tests that names are read off the messages rightly. Where a name holds a space only the second
+/// reading is used.
 fn answer_by(model: &Model, rule: Rule) -> Result<Report, String> {
     let names = read::names_of(&model.text)?;
     let plain: Vec<String> = (0..names.len()).map(|i| format!("n{i:03}")).collect();
@@ -33,6 +34,7 @@ fn answer_by(model: &Model, rule: Rule) -> Result<Report, String> {
     Ok(other)
 }
 
+/// The report that is due.
 fn answer(model: &Model) -> Result<Report, String> {
     answer_by(model, Rule::Amended)
 }
