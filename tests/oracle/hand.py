@@ -60,11 +60,20 @@ CASES = [
     # 0 -> pre pre a: the inner; 0 -> pre (0 -> pre a): none
     (operator("a", [("a", "69, 41 0, 68, 68, 44 a")]), 0, ["E0070 node 0 0 3 -"]),
     (operator("a", [("a", "69, 41 0, 68, 69, 41 0, 68, 44 a")]), 0, []),
-    # literals: 127, 128, minus 128 under Int8; 3,000,000,000 under Int32
+    # literals: 127, 128, minus 128 under Int8
     (value("41 127", "21"), 0, []),
     (value("41 128", "21"), 0, ["E0040 node 0 0 - x"]),
     (value("46, 41 128", "21"), 0, []),
-    (value("41 3000000000"), 0, []),
+    # request 2.10: 3,000,000,000 under Int32, Int8, Float64, Int64; with one minus and two; 2^31 and minus 2^31
+    (value("41 3000000000"), 0, ["E0095 node 0 0 0 -"]),
+    (value("41 3000000000", "21"), 0, ["E0095 node 0 0 0 -"]),
+    (value("41 3000000000", "30"), 0, ["E0095 node 0 0 0 -"]),
+    (value("41 3000000000", "24"), 0, []),
+    (value("46, 41 3000000000"), 0, ["E0095 node 0 0 0 -"]),
+    (value("46, 46, 41 3000000000"), 0, ["E0095 node 0 0 1 -"]),
+    (value("41 2147483648"), 0, ["E0095 node 0 0 0 -"]),
+    (value("46, 41 2147483648"), 0, []),
+    (value("57, 41 1, 41 3000000000"), 0, ["E0095 node 0 0 2 -"]),
     # an empty array: without a hint, under an array of 5, under one of 0
     (value("74 0"), 0, ["E0123 node 0 0 0 -"]),
     (value("74 0", "32 5, 23"), 0, ["E0040 node 0 0 - x"]),

@@ -1,9 +1,10 @@
 #!/usr/bin/env python3
 """mark.py LIB MARKED AMENDED: makes the marked copy of the checker out of its source file, and the amended one.
 
-Every `diags.push(..)` becomes `diags.push_marked(..)`, and five places say which declaration or
-which expression is at hand (rust/mark.rs). Nothing else changes, no line moves, and the driver
-asserts on every model that the copy gives the diagnostics of the unchanged source.
+Every `diags.push(..)` becomes `diags.push_marked(..)`, eight places say which declaration or which
+expression is at hand, and one says that an integer becomes an Int32 (rust/mark.rs). Nothing else
+changes, no line moves, and the driver asserts on every model that the copy gives the diagnostics of
+the unchanged source.
 The amended copy is the marked one with the requests of document 02 that change a report. The driver
 asserts on every model that the two differ in nothing but what a request lets differ.
 """
@@ -30,15 +31,33 @@ ENTRIES = [
     ("    under_arrow_body: bool,\n    diags: &mut Vec<Diagnostic>,\n    ctx: &str,\n) {\n",
      "    under_arrow_body: bool,\n    diags: &mut Vec<Diagnostic>,\n    ctx: &str,\n) { let _r = mark::rule(expr);\n"),
     ("        e.visit(|x| {\n", "        e.visit(|x| { let _r = mark::rule(x);\n"),
+    # an integer that takes no hint
+    ("            return resolved;\n        }\n    }\n    Type::Int32\n",
+     "            return resolved;\n        }\n    }\n    mark::int32(value); Type::Int32\n"),
 ]
 
-# request 2.6: the body of an arrow is read in the same instant, and functions are searched
 AMENDMENTS = [
+    # request 2.6: the body of an arrow is read in the same instant, and functions are searched
     ("        Expr::Arrow { init, .. } => collect_immediate_deps(init, out),\n",
      "        Expr::Arrow { init, body } => { collect_immediate_deps(init, out); collect_immediate_deps(body, out) }\n"),
     ("    if !node.is_function() {\n        if let Some(cycle) = detect_combinational_cycle(node) {\n",
      "    {\n        if let Some(cycle) = detect_combinational_cycle(node) {\n"),
+    # request 2.10: a literal whose type does not hold it has none
+    ("            Literal::Int { value } => integer_literal_type(*value, hint, tctx),\n",
+     "            Literal::Int { value } => held(*value, integer_literal_type(*value, hint, tctx), diags, ctx)?,\n"),
+    ("                return Some(integer_literal_type(-*value, hint, tctx));\n",
+     "                return held(-*value, integer_literal_type(-*value, hint, tctx), diags, ctx);\n"),
 ]
+
+HELD = """
+fn held(value: i64, ty: Type, diags: &mut Vec<Diagnostic>, ctx: &str) -> Option<Type> {
+    if fits_in_integer(value, &ty) {
+        return Some(ty);
+    }
+    diags.push_marked(Diagnostic::error("E0095", format!("{value} fits no type")).with_context(ctx.to_string()));
+    None
+}
+"""
 
 
 def replaced(text, entries):
@@ -55,14 +74,14 @@ def marked(text):
     made = text.count("Diagnostic::error(") + text.count("Diagnostic::warning(")
     if pushes == 0 or pushes != made:
         raise SystemExit(f"mark.py: {pushes} pushes, {made} diagnostics made")
-    return replaced(text, ENTRIES).replace("diags.push(", "diags.push_marked(") + "\nmod mark;\nuse mark::Marked;\n"
+    return replaced(text, ENTRIES).replace("diags.push(", "diags.push_marked(") + "\npub mod mark;\nuse mark::Marked;\n"
 
 
 def main():
     source, plain, amended = sys.argv[1:]
     with open(source, encoding="utf-8") as f:
         text = marked(f.read())
-    for target, copy in ((plain, text), (amended, replaced(text, AMENDMENTS))):
+    for target, copy in ((plain, text), (amended, replaced(text, AMENDMENTS) + HELD)):
         with open(target, "w", encoding="utf-8") as f:
             f.write(copy)
 

@@ -11,6 +11,7 @@ pub mod Keeps
 pub mod Notes
 pub mod Speaks
 pub mod Ranges
+pub mod Integers
 pub mod Naming
 pub mod Nodes
 pub mod Loops

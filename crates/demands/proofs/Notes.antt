@@ -14,7 +14,7 @@ use Rattle.lustre.specs.Expr.{const, var, unary, binary, ite, pre, arrow, call,
 use Rattle.lustre.specs.Project.{Port}
 use Rattle.lustre.specs.Line.{Note, Out, plain, named, return, fail, add, require, try, _>>=_, _>>_}
 use Rattle.lustre.specs.Resolve.{Scope, array-of, follow-alias, try-resolve, or-itself, resolve}
-use Rattle.lustre.specs.Infer.{Typing, if-found, fault, one-output, two-inputs, array-type, missing, unless-agrees, cast-of, cast-rule, var-rule, unary-of, unary-plain, unary-rule, operands, binary-rule, agree-rule, both, if-rule, argument, arguments, field-of, field-rule, index-of, index-rule, item, items, empty-array, array-rule, resolved-name, struct-name, value, values, struct-of, struct-rule, clock-of, clock, when-rule, merge-rule, operand, arrays, seed-agrees, seed-rule, element-rule, iterate-as, iterate-of, iterate-rule, call-of, call-rule, infer, infers, infersⁱ}
+use Rattle.lustre.specs.Infer.{Typing, if-found, fault, literal-rule, one-output, two-inputs, array-type, missing, unless-agrees, cast-of, cast-rule, var-rule, unary-of, unary-plain, unary-rule, operands, binary-rule, agree-rule, both, if-rule, argument, arguments, field-of, field-rule, index-of, index-rule, item, items, empty-array, array-rule, resolved-name, struct-name, value, values, struct-of, struct-rule, clock-of, clock, when-rule, merge-rule, operand, arrays, seed-agrees, seed-rule, element-rule, iterate-as, iterate-of, iterate-rule, call-of, call-rule, infer, infers, infersⁱ}
 use Rattle.demands.specs.Reading.{Each}
 use Rattle.demands.proofs.Known.{Known-type, Known-expr, Known-exprs, Known-inits, Known-ports, Known-scope, Fine}
 use Rattle.demands.proofs.Eaches.{If-some, each-append, each-if}
@@ -102,6 +102,10 @@ module _ (K : Name → Type 0) where
   abbrev Saying : Typing → Type 0
   Saying t = (hint : Option Ty) → Says (t hint)
 
+  literal-says : (at : ℕ) (t : Option Ty) → Says (literal-rule at t)
+  unfolding literal-rule
+  literal-says at t = search saying
+
   one-says : (n : Note) (ps : List Port) → Fine K n → Says (one-output n ps)
   unfolding one-output
   one-says n [] h = search saying
@@ -181,7 +185,7 @@ module _ (K : Name → Type 0) where
     unary-says : (at : ℕ) (o : UnaryOp) (f : Form) (arg : Typing) → Saying arg → Saying (unary-rule Γ at o f arg)
     unfolding unary-rule
     unary-says at Not f arg h = unary-plain-says at Not arg h
-    unary-says at Neg (integer v) arg h = λ hint. search saying
+    unary-says at Neg (integer v) arg h = λ hint. literal-says at _
     unary-says at Neg temporal arg h = unary-plain-says at Neg arg h
     unary-says at Neg iterator arg h = unary-plain-says at Neg arg h
     unary-says at Neg other arg h = unary-plain-says at Neg arg h
@@ -321,7 +325,7 @@ module _ (K : Name → Type 0) where
         unfolding infer infers infersⁱ Known-expr Known-exprs Known-inits
 
         pub infer-says : (at : ℕ) (e : Expr) → Known-expr K e → Saying (infer Γ function at e)
-        infer-says at (const l w) k = λ hint. search saying
+        infer-says at (const l w) k = λ hint. literal-says at _
         infer-says at (var x) k = λ hint. var-says at x k
         infer-says at (unary o e) k = unary-says at o (form e) _ (infer-says _ e k)
         infer-says at (binary o l r) k = binary-says at _ _ _ (infer-says _ l (k .0)) (infer-says _ r (k .1))

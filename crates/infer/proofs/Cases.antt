@@ -35,7 +35,7 @@ use Rattle.types.specs.Place.{TypeAt, Read}
 use Rattle.types.specs.declared.Typ.{Typ}
 use Rattle.types.specs.declared.Hint.{Hint}
 use Rattle.rules.specs.World.{World, Typed}
-use Rattle.rules.specs.Post.{Given, Done, Ruled, Inferring, Failed, HintIs}
+use Rattle.rules.specs.Post.{Given, Done, Ruled, Literal-ruled, Inferring, Failed, HintIs}
 use Rattle.rules.specs.Classes.{rank}
 use Rattle.rules.specs.declared.Inferred.{Inferred}
 use Rattle.rules.proofs.Laws.{false-true, go, stop, returned, refused, passed, after, lower, at-end}
@@ -238,13 +238,13 @@ module _ {ks ws sc pk pw : List ℕ} {at : ℕ} {h : Hint} (g : Given ks ws sc p
 
   -- ---- literals, variables, tuples
 
-  pub literal-done : Kind literal-kind pk at → {q : Spot} {o : List ℕ} {n : ℕ} {t : Typ} → ((l : Literal) → literal-kind l ≡ getD pk at 0 → Hinted ks ws sc h (λ al. literal-type al l (getD pw at 0)) t)
-      → Whole g q o n (record { ok = true; typ = t; next = at + 1; n = n }) o
+  pub literal-done : Kind literal-kind pk at → {q : Spot} {o o′ : List ℕ} {n t : ℕ} {r : Inferred} → ((l : Literal) → literal-kind l ≡ getD pk at 0 → Hinted ks ws sc h (λ al. literal-type al l (getD pw at 0)) t)
+      → Literal-ruled q at t (at + 1) o n r o′ → Whole g q o n r o′
   unfolding infer size
-  literal-done k {t = t} f =
+  literal-done k f d =
       let w = const-here src (g .e) at (g .stands) (k .which) (k .is) in
-      let u = f (k .which) (sym (k .is)) in
-      rw w (returned t (omega (arith, u .flat)) (u .known (g .known)) refl (ap (λ (x : Ty). return x) (sym (u .is (g .W .text) (g .W .Γ .alias) (g .W .alias)))))
+      let u = f (k .which) (sym (k .is)) .type (g .W .text) (g .W .Γ .alias) (g .W .alias) in
+      rw w (lower (omega arith) (d (g .W .number) (g .W .text) _ u))
 
   module _ (k : getD pk at 0 ≡ 44) where
     pub var-small : getD pw at 0 < 512
@@ -284,14 +284,15 @@ module _ {ks ws sc pk pw : List ℕ} {at : ℕ} {h : Hint} (g : Given ks ws sc p
 
     module _ {b : Bool} (eb : b ≡ (eqb (getD pk at 0) 46 && eqb (getD pk (at + 1) 0) 41)) where
       -- a minus directly on an integer literal
-      pub unary-literal : b ≡ true → {q : Spot} {o : List ℕ} {n : ℕ} {t : Typ} → Hinted ks ws sc h (λ al. integer-type al (numberOf true (getD pw (at + 1) 0))) t
-          → Whole g q o n (record { ok = true; typ = t; next = at + 2; n = n }) o
+      pub unary-literal : b ≡ true → {q : Spot} {o o′ : List ℕ} {n t : ℕ} {r : Inferred} → Hinted ks ws sc h (λ al. integer-type al (numberOf true (getD pw (at + 1) 0))) t
+          → Literal-ruled q at t (at + 2) o n r o′ → Whole g q o n r o′
       unfolding infer size unary-rule form literal-form
-      unary-literal y {t = t} f =
+      unary-literal y f d =
           let z = both-true _ _ (sym eb ∙ y) in
           let m = unary-here src (g .e) at (g .stands) Neg (eqb-true _ _ (z .0)) in
           let w = const-here src (m .a) (at + 1) (m .a-at) int (eqb-true _ _ (z .1)) in
-          rw (m .is, w) (returned t (omega (arith, f .flat)) (f .known (g .known)) (omega arith) (ap (λ (x : Ty). return x) (sym (f .is (g .W .text) (g .W .Γ .alias) (g .W .alias)))))
+          let u = f .type (g .W .text) (g .W .Γ .alias) (g .W .alias) in
+          rw (m .is, w) (at-end (omega arith) (lower (omega arith) (d (g .W .number) (g .W .text) _ u)))
 
       module _ (nb : b ≡ false) where
         unary-not : k .which ≡ Neg → (v : ℤ) → form (unary-w .a) ≡ integer v → ⊥

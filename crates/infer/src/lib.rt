@@ -31,6 +31,7 @@ use rules::iterators::iterated;
 use rules::iterators::kept_none;
 use rules::iterators::map_rule;
 use rules::iterators::take_array;
+use rules::literal_rule;
 use rules::operands;
 use rules::ports::called;
 use rules::ports::find_port;
@@ -119,14 +120,9 @@ fn literal(
 {
     let k = rk[at];
     let w = rw[at];
-    let typ = literal_type(kinds, words, scope, k, w, hint);
+    let t = literal_type(kinds, words, scope, k, w, hint);
     let next = at + 1;
-    Inferred {
-        ok: true,
-        typ,
-        next,
-        n,
-    }
+    literal_rule(t, at, next, q, out, n)
 }
 
 // A variable, lib.rs 754.
@@ -197,14 +193,9 @@ fn unary(
     let k = rk[p];
     if is_signed(o, k) {
         let w = rw[p];
-        let typ = integer_literal_type(kinds, words, scope, w, true, hint);
+        let t = integer_literal_type(kinds, words, scope, w, true, hint);
         let next = at + 2;
-        Inferred {
-            ok: true,
-            typ,
-            next,
-            n,
-        }
+        literal_rule(t, at, next, q, out, n)
     } else {
         let a = infer(kinds, words, scope, rk, rw, p, hint, q, out, n);
         if a.ok {

@@ -116,8 +116,8 @@ marked =
     (typing (num 127) (some Int8), typed (some Int8, []))
     ∷ (typing (num 128) (some Int8), typed (some Int32, []))
     ∷ (typing (minus 128) (some Int8), typed (some Int8, []))
-    -- 3,000,000,000 without hint is Int32
-    ∷ (typing (num 3_000_000_000) none, typed (some Int32, []))
+    -- 3,000,000,000 without hint: since request 2.10 E0095, and no type
+    ∷ (typing (num 3_000_000_000) none, typed (none, record { code = 95; step = some 0; name = none } ∷ []))
     -- empty array: E0123; under Int32 array of length 5: length 0
     ∷ (typing (array []ᵉ) none, typed (none, record { code = 123; step = some 0; name = none } ∷ []))
     ∷ (typing (array []ᵉ) (some (Array 5 Int32)), typed (some (Array 0 Int32), []))

@@ -2,6 +2,7 @@ pub mod Models
 pub mod Cases
 pub mod Slips
 pub mod Typing
+pub mod Literals
 pub mod Steps
 pub mod Pinned
 pub mod Reading

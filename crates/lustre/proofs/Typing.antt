@@ -45,11 +45,10 @@ literals =
     ∷ (operator Character half gives other-type ∷ [])
     ∷ (operator Boolean (binary Eq half (v "f64")) gives [])
     ∷ (operator Boolean (binary Eq half (v "f32")) gives E 84 at 0 ∷ [])
-    -- an integer takes an integer hint that it fits, an alias of one too; else it is Int32
+    -- an integer takes an integer hint that it fits, an alias of one too; else it is Int32, if it fits that (Literals has every bound)
     ∷ (operator Small (num 127) gives [])
     ∷ (operator Small (num 128) gives other-type ∷ [])
     ∷ (operator Float64 (num 1) gives other-type ∷ [])
-    ∷ (operator Boolean (binary Eq (num 3_000_000_000) (v "i32")) gives [])
     ∷ (operator Boolean (binary Eq (num 1) (v "i64")) gives E 84 at 0 ∷ [])
     -- its word is two's complement: −1, −128, −129
     ∷ (operator Uint8 (num 18_446_744_073_709_551_615) gives other-type ∷ [])
@@ -69,15 +68,15 @@ literals =
     ∷ (operator Uint16 (num 65_535) gives [])
     ∷ (operator Uint16 (num 65_536) gives other-type ∷ [])
     ∷ (operator Uint32 (num 4_294_967_295) gives [])
-    ∷ (operator Uint32 (num 4_294_967_296) gives other-type ∷ [])
+    ∷ (operator Uint32 (num 4_294_967_296) gives E 95 at 0 ∷ [])
     ∷ (operator Uint64 (num 9_223_372_036_854_775_807) gives [])
-    ∷ (operator Uint64 (num 9_223_372_036_854_775_808) gives other-type ∷ [])
+    ∷ (operator Uint64 (num 9_223_372_036_854_775_808) gives E 95 at 0 ∷ [])
     -- a minus directly on an integer literal is taken first: −0, and −(−1) as one literal
     ∷ (operator Uint8 (minus 0) gives [])
     ∷ (operator Uint8 (minus 18_446_744_073_709_551_615) gives [])
     -- −(−2^63) fits Uint64 only: document 01, where the Rust overflows
     ∷ (operator Uint64 (minus 9_223_372_036_854_775_808) gives [])
-    ∷ (operator Int64 (minus 9_223_372_036_854_775_808) gives other-type ∷ [])
+    ∷ (operator Int64 (minus 9_223_372_036_854_775_808) gives E 95 at 0 ∷ [])
     -- a minus on a minus is not: it hands its hint on
     ∷ (operator Int8 (unary Neg (minus 128)) gives [])
     ∷ (operator Uint8 (unary Neg (minus 1)) gives other-type ∷ [])

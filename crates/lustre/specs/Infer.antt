@@ -64,6 +64,10 @@ gives Order l = Boolean
 gives Arithmetic l = l
 gives Bitwise l = l
 
+-- the type of a literal, lib.rs 721. Request 2.10: E0095 where it has none, an integer that fits neither its hint nor Int32
+unfoldable pub literal-rule : ℕ → Option Ty → Out Ty
+literal-rule at t = if-found t return (fail (plain at 95))
+
 -- the type of a call, lib.rs 1001
 unfoldable pub outputs-type : List Port → Ty
 outputs-type [] = unit-type
@@ -157,10 +161,10 @@ module _ (Γ : Scope) where
     a ← arg hint
     unary-of at o a
 
-  -- lib.rs 773: a minus directly on an integer literal is a signed literal
+  -- lib.rs 773: a minus directly on an integer literal is a signed literal, whose step is the minus's
   unfoldable pub unary-rule : ℕ → UnaryOp → Form → Typing → Typing
   unary-rule at Not f arg = unary-plain at Not arg
-  unary-rule at Neg (integer v) arg = λ hint. return (integer-type (Γ .alias) (negℤ v) hint)
+  unary-rule at Neg (integer v) arg = λ hint. literal-rule at (integer-type (Γ .alias) (negℤ v) hint)
   unary-rule at Neg temporal arg = unary-plain at Neg arg
   unary-rule at Neg iterator arg = unary-plain at Neg arg
   unary-rule at Neg other arg = unary-plain at Neg arg
@@ -391,7 +395,7 @@ module _ (Γ : Scope) (function : Bool) where
   -- the expression at a step
   unfoldable mutual
     pub infer : ℕ → Expr → Typing
-    infer at (const l w) = λ hint. return (literal-type (Γ .alias) l w hint)
+    infer at (const l w) = λ hint. literal-rule at (literal-type (Γ .alias) l w hint)
     infer at (var x) = λ hint. var-rule Γ at x
     infer at (unary o e) = unary-rule Γ at o (form e) (infer (at + 1) e)
     infer at (binary o l r) = binary-rule Γ at (op-class o) (infer (at + 1) l) (infer (at + 1 + size l) r)

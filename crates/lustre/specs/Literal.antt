@@ -29,17 +29,22 @@ fits v (basic b) = in-some-range v (range-of b)
 fits v (Array n t) = false
 fits v (Named x) = false
 
--- `integer_literal_type`: the resolved hint if the number fits it, else Int32
-unfoldable pub integer-type : Aliases → ℤ → Option Ty → Ty
-integer-type al v none = Int32
-integer-type al v (some h) = if fits v (resolve al h) then resolve al h else Int32
+-- Int32, if the number fits it. The Rust gives Int32 to every number; by request 2.10 one that doesn't fit has no type
+unfoldable pub int32-type : ℤ → Option Ty
+int32-type v = if fits v Int32 then some Int32 else none
+
+-- `integer_literal_type`: the resolved hint if the number fits it, else Int32 if it fits that
+unfoldable pub integer-type : Aliases → ℤ → Option Ty → Option Ty
+integer-type al v none = int32-type v
+integer-type al v (some h) = if fits v (resolve al h) then some (resolve al h) else int32-type v
 
 unfoldable pub float-type : Aliases → Option Ty → Ty
 float-type al none = Float64
 float-type al (some h) = if is-float (resolve al h) then resolve al h else Float64
 
-unfoldable pub literal-type : Aliases → Literal → ℕ → Option Ty → Ty
-literal-type al bool w hint = Boolean
+-- the type of a literal, if it has one
+unfoldable pub literal-type : Aliases → Literal → ℕ → Option Ty → Option Ty
+literal-type al bool w hint = some Boolean
 literal-type al int w hint = integer-type al (toZ w64 w) hint
-literal-type al float w hint = float-type al hint
-literal-type al char w hint = Character
+literal-type al float w hint = some (float-type al hint)
+literal-type al char w hint = some Character

@@ -1,4 +1,4 @@
-// The codes of document 01, as numbers: the digits behind the letter. W0051 alone is a warning. The clock codes E0132 to E0135 are left out.
+// The codes of documents 01 and 02, as numbers: the digits behind the letter. W0051 alone is a warning. The clock codes E0132 to E0135 are left out.
 // A node has the name of an earlier one.
 pub const E0001: u64 = 1;
 // An imported node has equations.
@@ -65,6 +65,8 @@ pub const E0092: u64 = 92;
 pub const E0093: u64 = 93;
 // A cast to no numeric type.
 pub const E0094: u64 = 94;
+// An integer literal that fits neither its hint nor Int32.
+pub const E0095: u64 = 95;
 // A call of an unknown node.
 pub const E0100: u64 = 100;
 // A function calls an operator.

@@ -5,18 +5,19 @@ use native.Mathlib.Omega.{arith}
 use mathlib.Core.Path.{_≡_, refl, sym, _∙_}
 use mathlib.Core.Bool.{Bool, true, false}
 use mathlib.Core.List.{List}
-use mathlib.Core.Option.{none, some}
+use mathlib.Core.Option.{Option, none, some}
 use lib.Dec.{eqb}
-use borrow.Author.Tests.{le-leb, lt-leb, eqb-true, eqb-false}
+use borrow.Author.Tests.{ne-eqb, le-leb, lt-leb, eqb-true, eqb-false}
 use Rattle.lustre.specs.Name.{Name, find}
 use Rattle.lustre.specs.Types.{Ty, basic, Array, Named}
 use Rattle.lustre.specs.Expr.{UnaryOp, Not, Neg}
 use Rattle.lustre.specs.Grammar.{unary-kind}
 use Rattle.lustre.specs.Project.{Port}
-use Rattle.lustre.specs.Line.{Note, named, return, fail}
+use Rattle.lustre.specs.Line.{Note, plain, named, return, fail}
 use Rattle.lustre.specs.Resolve.{Scope}
-use Rattle.lustre.specs.Infer.{if-found, var-rule, field-of, array-type, element-of}
+use Rattle.lustre.specs.Infer.{if-found, literal-rule, var-rule, field-of, array-type, element-of}
 use Rattle.types.specs.Value.{Naming, bottom, asTy, Known, ArrayOf}
+use Rattle.types.specs.Number.{basic-of, KindIs}
 use Rattle.types.specs.declared.Typ.{Typ}
 use Rattle.types.proofs.Values.{bottom-basic, bottom-name, view-flat, view-array}
 
@@ -41,6 +42,19 @@ flat-case ρ t P z b x = rw (view-flat ρ t z) (go (eqb (t .base) 33) refl)
     go : (c : Bool) → eqb (t .base) 33 ≡ c → P (bottom ρ (t .base) (t .name))
     go true e = rw (bottom-name ρ (t .base) (t .name) (eqb-true (t .base) 33 e)) (x (ρ (t .name)))
     go false e = rw (bottom-basic ρ (t .base) (t .name) (eqb-false (t .base) 33 e)) (b (t .base))
+
+-- ---- literals
+
+module _ {t : Option Ty} {k : ℕ} (at : ℕ) (h : KindIs t k) where
+  -- the type of a kind
+  pub literal-typed : (k ≡ 0 → ⊥) → literal-rule at t ≡ return (basic k)
+  unfolding literal-rule if-found basic-of
+  literal-typed z = rw (← h .is, ne-eqb k 0 z)
+
+  -- and 0 for none
+  pub literal-untyped : k ≡ 0 → literal-rule at t ≡ fail (plain at 95)
+  unfolding literal-rule if-found basic-of
+  literal-untyped z = rw (← h .is, z)
 
 -- ---- operators of one operand
 

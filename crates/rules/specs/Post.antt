@@ -9,13 +9,13 @@ use Rattle.lustre.specs.Name.{Name}
 use Rattle.lustre.specs.Types.{Ty}
 use Rattle.lustre.specs.Expr.{Expr, size}
 use Rattle.lustre.specs.Line.{Out}
-use Rattle.lustre.specs.Infer.{infer}
+use Rattle.lustre.specs.Infer.{literal-rule, infer}
 use Rattle.input.specs.Depths.{depth, Shallow-casts}
 use Rattle.standing.specs.Standing.{source, Expr-at}
 use Rattle.lines.specs.Lines.{Put, Said}
 use Rattle.lines.specs.declared.Spot.{Spot}
 use Rattle.types.specs.Value.{Naming, asTy, maybe, Known}
-use Rattle.types.specs.Number.{asHint}
+use Rattle.types.specs.Number.{asHint, KindIs}
 use Rattle.types.specs.declared.Typ.{Typ}
 use Rattle.types.specs.declared.Hint.{Hint}
 use Rattle.rules.specs.World.{World}
@@ -44,6 +44,10 @@ pub record Done (num : Name → ℕ) (ρ : Naming) (q : Spot) (s : Out Ty) (end 
 -- a rule over types: what it says in each world
 abbrev pub Ruled : (ks ws sc : List ℕ) (q : Spot) (s : World ks ws sc → Out Ty) (end high : ℕ) (o : List ℕ) (n : ℕ) (r : Inferred) (o′ : List ℕ) → Type 0
 Ruled ks ws sc q s end high o n r o′ = (W : World ks ws sc) → Done (W .number) (W .text) q (s W) end high o n r o′
+
+-- the rule of a literal whose type is of kind k, whatever names mean
+abbrev pub Literal-ruled : (q : Spot) (at k end : ℕ) (o : List ℕ) (n : ℕ) (r : Inferred) (o′ : List ℕ) → Type 0
+Literal-ruled q at k end o n r o′ = (num : Name → ℕ) (ρ : Naming) (t : Option Ty) → KindIs t k → Done num ρ q (literal-rule at t) end 0 o n r o′
 
 -- the type of the expression at a place: a hint of at most 127 lengths gives a type of at most 127
 abbrev pub Inferring : (ks ws sc rk rw : List ℕ) (at : ℕ) (h : Hint) (q : Spot) (o : List ℕ) (n : ℕ) (r : Inferred) (o′ : List ℕ) → Type 0

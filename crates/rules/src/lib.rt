@@ -11,21 +11,24 @@ pub mod structs;
 use crate::ports::find_port;
 use lines::Spot;
 use lines::put_line;
+use lustre::codes;
 use types::Typ;
 use types::aliases::basic_kind;
 use types::aliases::compatible;
 use types::aliases::resolve;
 use types::bottom_of;
 use types::element;
+use types::is_between;
 use types::is_numeric;
+use types::literal::NO_TYPE;
 use types::records::read_type;
 ghost use mathlib.Core.Path.{_≡_};
-ghost use mathlib.Core.Bool.{false, _&&_};
+ghost use mathlib.Core.Bool.{false};
 ghost use mathlib.Core.List.{[], _∷_};
 ghost use mathlib.Core.Option.{some};
 ghost use Prim.Native.Nat.{_+_, _-_, _<_, _≤_, max};
 ghost use Rattle.lustre.specs.Name.{if_then_else_};
-ghost use lib.Dec.{eqb, leb};
+ghost use lib.Dec.{eqb};
 ghost use lib.ListN.{length, getD};
 ghost use Rattle.lustre.specs.Types.{within, is-bool, is-integer};
 ghost use Rattle.lustre.specs.Expr.{UnaryOp, BinOp, OpClass, Equality, op-class};
@@ -36,7 +39,7 @@ ghost use Rattle.lustre.specs.Infer.{meets as meets-class, operands as operands
 ghost use Rattle.lines.specs.Lines.{Put, Noted, Said};
 ghost use Rattle.types.specs.Value.{Naming, Injective, asTy, Known};
 ghost use Rattle.rules.specs.World.{World, Type-here};
-ghost use Rattle.rules.specs.Post.{Ruled, Gives, Failed, passes};
+ghost use Rattle.rules.specs.Post.{Ruled, Literal-ruled, Gives, Failed, passes};
 ghost use Rattle.rules.specs.Classes.{rank};
 
 // No name: the value of a line's field that has none.
@@ -112,16 +115,6 @@ fn refuse(out: &mut [u64], q: Spot, n: u64, code: u64, step: usize, name: u64) -
     }
 }
 
-// Whether a kind is from low to high.
-fn is_between(k: u8, low: u8, high: u8) -> bool
-    ensures { λ r. ⌜ r ≡ (leb low k && leb k high) ⌝ }
-{
-    if k < low {
-        return false;
-    }
-    k <= high
-}
-
 // Whether the type t is a basic type of the kinds from low to high once resolved.
 fn resolves_within(kinds: &[u8], words: &[u64], scope: &[u64], t: Typ, low: u8, high: u8) -> bool
     requires { ⌜ World (now kinds) (now words) (now scope) × (0 < low) ⌝ }
@@ -137,6 +130,22 @@ pub fn is_truth(kinds: &[u8], words: &[u64], scope: &[u64], t: Typ) -> bool
     ensures { λ r. ⌜ ((W : World (now (kinds .entry)) (now (words .entry)) (now (scope .entry))) → r ≡ is-bool (res (W .Γ) (asTy (W .text) t))) ⌝ }
 {
     resolves_within(kinds, words, scope, t, 20, 20)
+}
+
+// A literal whose type is of kind k, lib.rs 721. Request 2.10: E0095 where it has none.
+pub fn literal_rule(k: u8, at: usize, next: usize, q: Spot, out: &mut [u64], n: u64) -> Inferred
+    ensures { λ r. ⌜ Literal-ruled q at k next (now (out .entry)) n r (now (out .exit)) ⌝ }
+{
+    if k == NO_TYPE {
+        return fail_plain(out, q, n, codes::E0095, at);
+    }
+    let typ = bottom_of(k, 0);
+    Inferred {
+        ok: true,
+        typ,
+        next,
+        n,
+    }
 }
 
 // The entry of a name among ports and locals, or else among constants.

@@ -20,14 +20,12 @@ use Rattle.lustre.specs.Types.{Ty, basic, Array, Named, within, is-float, signe
 use Rattle.lustre.specs.Expr.{Literal, bool, int, float, char}
 use Rattle.lustre.specs.Grammar.{literal-kind}
 use Rattle.lustre.specs.Resolve.{Aliases, resolve}
-use Rattle.lustre.specs.Literal.{in-range, in-some-range, fits, integer-type, float-type, literal-type}
-use Rattle.types.specs.Value.{Naming, bottom, asTy, maybe, Bottom}
+use Rattle.lustre.specs.Literal.{in-range, in-some-range, fits, int32-type, integer-type, float-type, literal-type}
+use Rattle.types.specs.Value.{asTy, maybe}
 use Rattle.types.specs.Scope.{kind-of, KindOf}
-use Rattle.types.specs.Number.{signedAs, rangeAs, Hinted}
-use Rattle.types.specs.declared.Typ.{Typ}
+use Rattle.types.specs.Number.{signedAs, rangeAs, basic-of, KindIs, Hinted}
 use Rattle.types.specs.declared.Hint.{Hint}
 use Rattle.types.proofs.Truths.{never}
-use Rattle.types.proofs.Values.{bottom-basic, bottom-name, view-flat, view-array}
 
 -- ---- i64
 
@@ -121,50 +119,51 @@ pub no-range : (k : ℕ) → (k ≡ 21 → ⊥) → (k ≡ 22 → ⊥) → (k �
 unfolding range-of
 no-range k a b c d e f g h = rw (ne-eqb k 21 a, ne-eqb k 22 b, ne-eqb k 23 c, ne-eqb k 24 d, ne-eqb k 25 e, ne-eqb k 26 f, ne-eqb k 27 g, ne-eqb k 28 h)
 
--- ---- the numbers that fit a type by value
-
-module _ (v : ℤ) (ρ : Naming) (t : Typ) where
-  pub fits-array : (t .levels ≡ 0 → ⊥) → fits v (asTy ρ t) ≡ false
-  unfolding fits
-  fits-array h = rw (view-array ρ t h)
-
-  pub fits-flat : t .levels ≡ 0 → fits v (asTy ρ t) ≡ fits v (basic (t .base))
-  unfolding fits in-some-range range-of
-  fits-flat z = rw (view-flat ρ t z) (go (eqb (t .base) 33) refl)
-    where
-      go : (b : Bool) → eqb (t .base) 33 ≡ b → fits v (bottom ρ (t .base) (t .name)) ≡ fits v (basic (t .base))
-      go true e = rw (bottom-name ρ (t .base) (t .name) (eqb-true (t .base) 33 e), eqb-true (t .base) 33 e)
-      go false e = rw (bottom-basic ρ (t .base) (t .name) (eqb-false (t .base) 33 e))
-
 -- ---- the type of a literal under a hint
 
--- r is the basic type d
-pub record Basic (d : ℕ) (r : Typ) : Type 0 where
-  pub flat : r .levels ≡ 0
-  pub base : r .base ≡ 33 → ⊥
-  pub is : (ρ : Naming) → asTy ρ r ≡ basic d
+-- a kind that is neither 0 nor a name's
+pub kind-is : (k : ℕ) → (k ≡ 0 → ⊥) → (k ≡ 33 → ⊥) → KindIs (some (basic k)) k
+unfolding basic-of
+kind-is k z n = record { is = rw (ne-eqb k 0 z); no-name = n }
 
-pub bottom-is : {d : ℕ} {r : Typ} → Bottom d 0 r → (d ≡ 33 → ⊥) → Basic d r
-bottom-is {d} b n = record { flat = b .flat; base = λ e. n (sym (b .base) ∙ e); is = λ ρ. b .is ρ ∙ bottom-basic ρ d 0 n }
+module _ (v : ℤ) where
+  pub in-int32 : fits v (basic 23) ≡ true → KindIs (int32-type v) 23
+  unfolding int32-type basic-of
+  in-int32 e = record { is = rw e; no-name = eqb-false 23 33 refl }
 
--- f gives the resolved hint if that is in a class P, which holds basic types alone, else the basic type d
-pub record Picks (P : Ty → Bool) (d : ℕ) (f : Aliases → Option Ty → Ty) : Type 0 where
+  pub past-int32 : fits v (basic 23) ≡ false → KindIs (int32-type v) 0
+  unfolding int32-type basic-of
+  past-int32 e = record { is = rw e; no-name = eqb-false 0 33 refl }
+
+-- f gives the resolved hint if that is in a class P, which holds basic types alone, else d
+pub record Picks (P : Ty → Bool) (d : Option Ty) (f : Aliases → Option Ty → Option Ty) : Type 0 where
   pub arrays : (n : ℕ) (t : Ty) → P (Array n t) ≡ false
   pub names : (x : Name) → P (Named x) ≡ false
   pub zero : P (basic 0) ≡ false
   pub name : P (basic 33) ≡ false
-  pub bare : (al : Aliases) → f al none ≡ basic d
-  pub under : (al : Aliases) (h : Ty) → f al (some h) ≡ (if P (resolve al h) then resolve al h else basic d)
+  pub bare : (al : Aliases) → f al none ≡ d
+  pub under : (al : Aliases) (h : Ty) → f al (some h) ≡ (if P (resolve al h) then some (resolve al h) else d)
 
-pub picks-integer : (v : ℤ) → Picks (fits v) 23 (λ al. integer-type al v)
+pub picks-integer : (v : ℤ) → Picks (fits v) (int32-type v) (λ al. integer-type al v)
 unfolding fits integer-type in-some-range range-of
 picks-integer v = record { arrays = λ n t. refl; names = λ x. refl; zero = refl; name = refl; bare = λ al. refl; under = λ al h. refl }
 
-pub picks-float : Picks is-float 30 float-type
-unfolding within float-type
-picks-float = record { arrays = λ n t. refl; names = λ x. refl; zero = refl; name = refl; bare = λ al. refl; under = λ al h. refl }
+some-if : (b : Bool) (t u : Ty) → some (if b then t else u) ≡ (if b then some t else some u)
+some-if true t u = refl
+some-if false t u = refl
 
-module _ {P : Ty → Bool} {d : ℕ} {f : Aliases → Option Ty → Ty} (p : Picks P d f) where
+pub picks-float : Picks is-float (some (basic 30)) (λ al h. some (float-type al h))
+unfolding within float-type
+picks-float = record {
+  arrays = λ n t. refl;
+  names = λ x. refl;
+  zero = refl;
+  name = refl;
+  bare = λ al. refl;
+  under = λ al h. some-if (is-float (resolve al h)) (resolve al h) (basic 30);
+}
+
+module _ {P : Ty → Bool} {d : Option Ty} {f : Aliases → Option Ty → Option Ty} (p : Picks P d f) where
   -- a type in the class is the basic type of its kind
   by-kind : (t : Ty) → P (basic (kind-of t)) ≡ true → t ≡ basic (kind-of t)
   unfolding kind-of
@@ -178,49 +177,33 @@ module _ {P : Ty → Bool} {d : ℕ} {f : Aliases → Option Ty → Ty} (p : Pic
   not-kind (Array n t) e = p .arrays n t
   not-kind (Named x) e = p .names x
 
-  -- no name is in it
-  in-class : {k : ℕ} {t : Typ} → Bottom k 0 t → (ρ : Naming) → P (asTy ρ t) ≡ true → k ≡ 33 → ⊥
-  in-class {k} b ρ i e = never (sym (p .names (ρ 0)) ∙ ap P (sym (bottom-name ρ k 0 e)) ∙ ap P (sym (b .is ρ)) ∙ i)
+  -- a kind in the class is not this one
+  in-class : {k c : ℕ} → P (basic k) ≡ true → P (basic c) ≡ false → k ≡ c → ⊥
+  in-class i o e = never (sym o ∙ ap (λ (x : ℕ). P (basic x)) (sym e) ∙ i)
 
-  out-class : {k : ℕ} {t : Typ} → Bottom k 0 t → (ρ : Naming) → P (asTy ρ t) ≡ false → P (basic k) ≡ false
-  out-class {k} b ρ i = go (eqb k 33) refl
-    where
-      go : (q : Bool) → eqb k 33 ≡ q → P (basic k) ≡ false
-      go true e = rw (eqb-true k 33 e) (p .name)
-      go false e = ap P (sym (b .is ρ ∙ bottom-basic ρ k 0 (eqb-false k 33 e))) ∙ i
-
-module _ {P : Ty → Bool} {d : ℕ} {f : Aliases → Option Ty → Ty} (p : Picks P d f) {ks ws sc : List ℕ} {h : Hint} where
-  pub takes-hint : {k : ℕ} {t : Typ} → h .given ≡ true → KindOf ks ws sc (h .typ) k → Bottom k 0 t → ((ρ : Naming) → P (asTy ρ t) ≡ true) → Hinted ks ws sc h f t
+module _ {P : Ty → Bool} {d : Option Ty} {f : Aliases → Option Ty → Option Ty} (p : Picks P d f) {ks ws sc : List ℕ} {h : Hint} where
+  pub takes-hint : {k : ℕ} → h .given ≡ true → KindOf ks ws sc (h .typ) k → P (basic k) ≡ true → Hinted ks ws sc h f k
   unfolding maybe
-  takes-hint {k} {t} g q b i = record {
-    flat = b .flat;
-    known = λ m e. absurd (in-class p b (λ n. []) (i (λ n. [])) (sym (b .base) ∙ e));
-    is = λ ρ al T.
-        let a : asTy ρ t ≡ basic k = b .is ρ ∙ bottom-basic ρ k 0 (in-class p b ρ (i ρ)) in
-        let m : P (basic (kind-of (resolve al (asTy ρ (h .typ))))) ≡ true = ap (λ (x : ℕ). P (basic x)) (sym (q .is ρ al T)) ∙ ap P (sym a) ∙ i ρ in
+  takes-hint {k} g q i = record {
+    type = λ ρ al T.
+        let m : P (basic (kind-of (resolve al (asTy ρ (h .typ))))) ≡ true = ap (λ (x : ℕ). P (basic x)) (sym (q .is ρ al T)) ∙ i in
         let w : resolve al (asTy ρ (h .typ)) ≡ basic k = by-kind p _ m ∙ ap basic (sym (q .is ρ al T)) in
-        a ∙ sym (rw (g, p .under al (asTy ρ (h .typ)), w, ← a, i ρ));
+        rw (g, p .under al (asTy ρ (h .typ)), w, i) (kind-is k (in-class p i (p .zero)) (in-class p i (p .name)));
   }
 
-  pub leaves-hint : {k : ℕ} {t r : Typ} → h .given ≡ true → KindOf ks ws sc (h .typ) k → Bottom k 0 t → ((ρ : Naming) → P (asTy ρ t) ≡ false) → Basic d r → Hinted ks ws sc h f r
+  pub leaves-hint : {k r : ℕ} → h .given ≡ true → KindOf ks ws sc (h .typ) k → P (basic k) ≡ false → KindIs d r → Hinted ks ws sc h f r
   unfolding maybe
-  leaves-hint g q o i b = record {
-    flat = b .flat;
-    known = λ k e. absurd (b .base e);
-    is = λ ρ al T. rw (g, p .under al (asTy ρ (h .typ)), not-kind p (resolve al (asTy ρ (h .typ))) (ap (λ (x : ℕ). P (basic x)) (sym (q .is ρ al T)) ∙ out-class p o ρ (i ρ))) (b .is ρ);
+  leaves-hint g q i b = record {
+    type = λ ρ al T. rw (g, p .under al (asTy ρ (h .typ)), not-kind p (resolve al (asTy ρ (h .typ))) (ap (λ (x : ℕ). P (basic x)) (sym (q .is ρ al T)) ∙ i)) b;
   }
 
-  pub no-hint : {r : Typ} → h .given ≡ false → Basic d r → Hinted ks ws sc h f r
+  pub no-hint : {r : ℕ} → h .given ≡ false → KindIs d r → Hinted ks ws sc h f r
   unfolding maybe
-  no-hint g b = record {
-    flat = b .flat;
-    known = λ k e. absurd (b .base e);
-    is = λ ρ al T. rw (g, p .bare al) (b .is ρ);
-  }
+  no-hint g b = record { type = λ ρ al T. rw (g, p .bare al) b }
 
--- a literal whose type is the basic type d under every hint
-pub any-hint : {ks ws sc : List ℕ} {h : Hint} {d : ℕ} {r : Typ} → Basic d r → Hinted ks ws sc h (λ al o. basic d) r
-any-hint b = record { flat = b .flat; known = λ k e. absurd (b .base e); is = λ ρ al T. b .is ρ }
+-- a literal whose type is the basic type of kind k under every hint
+pub any-hint : {ks ws sc : List ℕ} {h : Hint} (k : ℕ) → (k ≡ 0 → ⊥) → (k ≡ 33 → ⊥) → Hinted ks ws sc h (λ al o. some (basic k)) k
+any-hint k z n = record { type = λ ρ al T. kind-is k z n }
 
 -- the literal of a record kind
 unfoldable pub literalOf : ℕ → Literal
@@ -240,7 +223,7 @@ pub is-char : (k : ℕ) → (k ≡ 40 → ⊥) → (k ≡ 41 → ⊥) → (k ≡
 unfolding literalOf
 is-char k a b c = rw (ne-eqb k 40 a, ne-eqb k 41 b, ne-eqb k 42 c)
 
-pub typed-as : {ks ws sc : List ℕ} {h : Hint} {r : Typ} (word k : ℕ) {m : Literal} → literalOf k ≡ m → Hinted ks ws sc h (λ al. literal-type al m word) r →
+pub typed-as : {ks ws sc : List ℕ} {h : Hint} {r : ℕ} (word k : ℕ) {m : Literal} → literalOf k ≡ m → Hinted ks ws sc h (λ al. literal-type al m word) r →
     (l : Literal) → literal-kind l ≡ k → Hinted ks ws sc h (λ al. literal-type al l word) r
 typed-as word k e q l f = rw (is-literal l k f ∙ e) q
 

@@ -10,11 +10,10 @@ use lib.IntN.{ℤ, pos, negsuc, negℤ}
 use mir.Syntax.{w64}
 use mir.Val.{toZ}
 use Rattle.lustre.specs.Name.{if_then_else_}
-use Rattle.lustre.specs.Types.{Ty, Range, signed, unsigned}
+use Rattle.lustre.specs.Types.{Ty, basic, Range, signed, unsigned}
 use Rattle.lustre.specs.Resolve.{Aliases}
-use Rattle.types.specs.Value.{Naming, asTy, maybe, Known}
+use Rattle.types.specs.Value.{Naming, maybe}
 use Rattle.types.specs.Scope.{Table}
-use Rattle.types.specs.declared.Typ.{Typ}
 use Rattle.types.specs.declared.Hint.{Hint}
 
 -- the number of a literal's word, under a minus or not
@@ -35,8 +34,15 @@ rangeAs s w = if eqb w 0 then none else some (if s then signed w else unsigned w
 abbrev pub asHint : Naming → Hint → Option Ty
 asHint ρ h = maybe ρ (h .given) (h .typ)
 
--- what the functions on literals answer: the type f under the hint h, with no lengths
-pub record Hinted (ks ws sc : List ℕ) (h : Hint) (f : Aliases → Option Ty → Ty) (r : Typ) : Type 0 where
-  pub flat : r .levels ≡ 0
-  pub known : Known (h .typ) → Known r
-  pub is : (ρ : Naming) (al : Aliases) → Table ρ al ks ws sc → asTy ρ r ≡ f al (asHint ρ h)
+-- the basic type of a kind, none of 0
+unfoldable pub basic-of : ℕ → Option Ty
+basic-of k = if eqb k 0 then none else some (basic k)
+
+-- r is the kind of o, 0 where there is none
+pub record KindIs (o : Option Ty) (r : ℕ) : Type 0 where
+  pub is : basic-of r ≡ o
+  pub no-name : r ≡ 33 → ⊥
+
+-- what the functions on literals answer: the kind of what f gives under the hint h
+pub record Hinted (ks ws sc : List ℕ) (h : Hint) (f : Aliases → Option Ty → Option Ty) (r : ℕ) : Type 0 where
+  pub type : (ρ : Naming) (al : Aliases) → Table ρ al ks ws sc → KindIs (f al (asHint ρ h)) r

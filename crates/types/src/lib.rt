@@ -11,7 +11,7 @@ ghost use mathlib.Core.Path.{_≡_};
 ghost use mathlib.Core.Bool.{_&&_, false};
 ghost use Prim.Native.Nat.{_+_, _<_, _≤_};
 ghost use lib.Dec.{leb};
-ghost use Rattle.lustre.specs.Types.{same-type, within, is-bool, is-integer, is-float, is-numeric, is-tuple};
+ghost use Rattle.lustre.specs.Types.{same-type, within, is-bool, is-integer, is-numeric, is-tuple};
 ghost use Rattle.types.specs.Value.{Naming, Injective, bottom, asTy, outer, Bottom, ArrayOf, Around};
 
 // The kind of a named type; a base of any other kind has no name.
@@ -105,6 +105,16 @@ fn around(t: Typ, u: Typ) -> Typ
     }
 }
 
+// Whether a kind is from low to high.
+pub fn is_between(k: u8, low: u8, high: u8) -> bool
+    ensures { λ r. ⌜ r ≡ (leb low k && leb k high) ⌝ }
+{
+    if k < low {
+        return false;
+    }
+    k <= high
+}
+
 // Whether t is a basic type of the kinds from low to high, which leave out 33.
 fn is_within(t: Typ, low: u8, high: u8) -> bool
     requires { ⌜ (leb low 33 && leb 33 high) ≡ false ⌝ }
@@ -113,11 +123,7 @@ fn is_within(t: Typ, low: u8, high: u8) -> bool
     if t.levels != 0 {
         return false;
     }
-    let k = t.base;
-    if k < low {
-        return false;
-    }
-    k <= high
+    is_between(t.base, low, high)
 }
 
 // Whether t is Bool.
@@ -132,13 +138,6 @@ pub fn is_integer(t: Typ) -> bool
     ensures { λ r. ⌜ ((ρ : Naming) → r ≡ is-integer (asTy ρ t)) ⌝ }
 {
     is_within(t, 21, 28)
-}
-
-// Whether t is a type of floats.
-pub fn is_float(t: Typ) -> bool
-    ensures { λ r. ⌜ ((ρ : Naming) → r ≡ is-float (asTy ρ t)) ⌝ }
-{
-    is_within(t, 29, 30)
 }
 
 // Whether t is an integer type or a type of floats.

@@ -1,13 +1,13 @@
 // The types of literals: `fits_in_integer`, lib.rs 696, `integer_literal_type`, lib.rs 1477, and lib.rs 721 to 729.
 // A word becomes an i64 of the same 64 bits. A minus is taken of any i64 but −2^63, whose minus, 2^63, goes on as a magnitude. Ranges
 // are compared by width and sign: n and −(n + 1) have one bound, 2^(w − 1), in the signed range of width w.
+// A literal's type is a basic one, so it is given by its kind; 0 is for none.
 use crate::Hint;
-use crate::Typ;
 use crate::aliases::basic_kind;
-use crate::bottom_of;
-use crate::is_float;
+use crate::is_between;
 ghost use mathlib.Core.Path.{_≡_};
 ghost use mathlib.Core.Bool.{not};
+ghost use mathlib.Core.Option.{some};
 ghost use Prim.Native.Nat.{_≤_};
 ghost use lib.Dec.{leb};
 ghost use lib.IntN.{negsuc, negℤ};
@@ -17,10 +17,12 @@ ghost use mir.Val.{toZ};
 ghost use Rattle.lustre.specs.Types.{basic, range-of};
 ghost use Rattle.lustre.specs.Expr.{Literal};
 ghost use Rattle.lustre.specs.Grammar.{literal-kind};
-ghost use Rattle.lustre.specs.Literal.{fits, integer-type, float-type, literal-type};
-ghost use Rattle.types.specs.Value.{Naming, asTy};
+ghost use Rattle.lustre.specs.Literal.{fits, int32-type, integer-type, float-type, literal-type};
 ghost use Rattle.types.specs.Scope.{Targets};
-ghost use Rattle.types.specs.Number.{numberOf, signedAs, rangeAs, Hinted};
+ghost use Rattle.types.specs.Number.{numberOf, signedAs, rangeAs, KindIs, Hinted};
+
+// The kind that no type has.
+pub const NO_TYPE: u8 = 0;
 
 // The kind of Bool.
 const BOOL: u8 = 20;
@@ -28,7 +30,9 @@ const BOOL: u8 = 20;
 // The kind of Int32, which an integer literal has where it takes no hint.
 const INT32: u8 = 23;
 
-// The kind of Float64, which a float literal has where it takes no hint.
+// The kinds of Float32 and of Float64, which a float literal has where it takes no hint.
+const FLOAT32: u8 = 29;
+
 const FLOAT64: u8 = 30;
 
 // The kind of Char.
@@ -108,7 +112,7 @@ fn value_fits(v: i64, k: u8) -> bool
 }
 
 // Whether a word's number, under a minus if negated, fits the type of base kind k.
-fn word_fits(word: u64, negated: bool, k: u8) -> bool
+fn fits_in_integer(word: u64, negated: bool, k: u8) -> bool
     ensures { λ r. ⌜ r ≡ fits (numberOf negated word) (basic k) ⌝ }
 {
     let v = value_of(word);
@@ -121,17 +125,17 @@ fn word_fits(word: u64, negated: bool, k: u8) -> bool
     value_fits(minus(v), k)
 }
 
-// Whether a word's number, under a minus if negated, fits the type t.
-pub fn fits_in_integer(word: u64, negated: bool, t: Typ) -> bool
-    ensures { λ r. ⌜ ((ρ : Naming) → r ≡ fits (numberOf negated word) (asTy ρ t)) ⌝ }
+// Int32 if a word's number, under a minus if negated, fits it. By request 2.10 no other has a type where it takes no hint.
+fn int32_type(word: u64, negated: bool) -> u8
+    ensures { λ r. ⌜ KindIs (int32-type (numberOf negated word)) r ⌝ }
 {
-    if t.levels != 0 {
-        return false;
+    if fits_in_integer(word, negated, INT32) {
+        return INT32;
     }
-    word_fits(word, negated, t.base)
+    NO_TYPE
 }
 
-// The type of an integer literal, under a minus if negated: the resolved hint if the number fits it, else Int32.
+// The type of an integer literal, under a minus if negated: the resolved hint if the number fits it, else Int32 if it fits that.
 pub fn integer_literal_type(
     kinds: &[u8],
     words: &[u64],
@@ -139,48 +143,46 @@ pub fn integer_literal_type(
     word: u64,
     negated: bool,
     hint: Hint,
-) -> Typ
+) -> u8
     requires { ⌜ Targets (now kinds) (now words) (now scope) ⌝ }
     ensures { λ r. ⌜ Hinted (now (kinds .entry)) (now (words .entry)) (now (scope .entry)) hint (λ al. integer-type al (numberOf negated word)) r ⌝ }
 {
     if hint.given {
         let h = hint.typ;
         let k = basic_kind(kinds, words, scope, h);
-        let t = bottom_of(k, 0);
-        if fits_in_integer(word, negated, t) {
-            return t;
+        if fits_in_integer(word, negated, k) {
+            return k;
         }
-        return bottom_of(INT32, 0);
+        return int32_type(word, negated);
     }
-    bottom_of(INT32, 0)
+    int32_type(word, negated)
 }
 
 // The type of a float literal: the resolved hint if that is a type of floats, else Float64.
-fn float_literal_type(kinds: &[u8], words: &[u64], scope: &[u64], hint: Hint) -> Typ
+fn float_literal_type(kinds: &[u8], words: &[u64], scope: &[u64], hint: Hint) -> u8
     requires { ⌜ Targets (now kinds) (now words) (now scope) ⌝ }
-    ensures { λ r. ⌜ Hinted (now (kinds .entry)) (now (words .entry)) (now (scope .entry)) hint float-type r ⌝ }
+    ensures { λ r. ⌜ Hinted (now (kinds .entry)) (now (words .entry)) (now (scope .entry)) hint (λ al h. some (float-type al h)) r ⌝ }
 {
     if hint.given {
         let h = hint.typ;
         let k = basic_kind(kinds, words, scope, h);
-        let t = bottom_of(k, 0);
-        if is_float(t) {
-            return t;
+        if is_between(k, FLOAT32, FLOAT64) {
+            return k;
         }
-        return bottom_of(FLOAT64, 0);
+        return FLOAT64;
     }
-    bottom_of(FLOAT64, 0)
+    FLOAT64
 }
 
 // The type of the literal of record kind k, 40 to 43, with its word.
-pub fn literal_type(kinds: &[u8], words: &[u64], scope: &[u64], k: u8, word: u64, hint: Hint) -> Typ
+pub fn literal_type(kinds: &[u8], words: &[u64], scope: &[u64], k: u8, word: u64, hint: Hint) -> u8
     requires { ⌜ Targets (now kinds) (now words) (now scope) ⌝ }
     ensures { λ r. ⌜ ((l : Literal) → literal-kind l ≡ k → Hinted (now (kinds .entry)) (now (words .entry)) (now (scope .entry)) hint (λ al. literal-type al l word) r) ⌝ }
 {
     match k {
-        40 => bottom_of(BOOL, 0),
+        40 => BOOL,
         41 => integer_literal_type(kinds, words, scope, word, false, hint),
         42 => float_literal_type(kinds, words, scope, hint),
-        _ => bottom_of(CHAR, 0),
+        _ => CHAR,
     }
 }

@@ -10,6 +10,7 @@ use ol_ir::Diagnostic;
 thread_local! {
     static PLACES: RefCell<Vec<usize>> = const { RefCell::new(Vec::new()) };
     static RULES: RefCell<Vec<usize>> = const { RefCell::new(Vec::new()) };
+    static INT32: RefCell<Vec<(i64, usize)>> = const { RefCell::new(Vec::new()) };
 }
 
 type Stack = &'static std::thread::LocalKey<RefCell<Vec<usize>>>;
@@ -40,6 +41,17 @@ pub fn place<T>(declaration: &T) -> Entered {
 /// From here to the end of the block, the rule of this expression is being applied.
 pub fn rule<T>(expression: &T) -> Entered {
     enter(&RULES, expression)
+}
+
+/// The integer whose rule is being applied becomes an Int32.
+pub fn int32(value: i64) {
+    INT32.with(|s| s.borrow_mut().push((value, top(&RULES))));
+}
+
+/// The integers that became an Int32 since the last call, in order, each with the address of its
+/// expression.
+pub fn taken() -> Vec<(i64, usize)> {
+    INT32.take()
 }
 
 pub trait Marked {

@@ -9,7 +9,8 @@
 //! of the name, as document 01 says.
 //!
 //! The amended copy is the marked one with the requests of document 02 in it. The two must be equal in
-//! all that no request lets differ.
+//! all that no request lets differ: for request 2.10, the typing of the right-hand sides and constant
+//! values in which the marked copy makes an Int32 of an integer that doesn't fit one.
 use std::collections::{HashMap, HashSet};
 
 use ol_ir::*;
@@ -49,7 +50,12 @@ struct Places {
     declarations: HashMap<usize, (u64, u64, String)>,
     steps: HashMap<usize, u64>,
     aliases: HashMap<String, u64>,
+    /// of each expression the right-hand side or constant value that it stands in
+    sides: HashMap<usize, Side>,
 }
+
+/// A right-hand side or a constant value: place kind, place number, equation.
+type Side = (u64, u64, u64);
 
 fn address<T>(x: &T) -> usize {
     x as *const T as usize
@@ -71,13 +77,13 @@ impl Places {
             }
             for c in &pkg.constants {
                 places.declare(c, CONSTANT, constants, format!("constant {}", c.name));
-                places.number(&c.value, &mut 0);
+                places.side(&c.value, (CONSTANT, constants, NONE));
                 constants += 1;
             }
             for n in &pkg.nodes {
                 places.declare(n, NODE, nodes, format!("node {}", n.name));
-                for eq in &n.equations {
-                    places.number(&eq.rhs, &mut 0);
+                for (i, eq) in n.equations.iter().enumerate() {
+                    places.side(&eq.rhs, (NODE, nodes, i as u64));
                 }
                 nodes += 1;
             }
@@ -88,6 +94,11 @@ impl Places {
     fn declare<T>(&mut self, x: &T, kind: u64, number: u64, context: String) {
         let before = self.declarations.insert(address(x), (kind, number, context));
         assert!(before.is_none(), "two declarations at one address");
+    }
+
+    fn side(&mut self, e: &Expr, side: Side) {
+        e.visit(|x| drop(self.sides.insert(address(x), side)));
+        self.number(e, &mut 0);
     }
 
     /// Numbers the records of an expression from its start: lists, field values and the types of
@@ -176,10 +187,46 @@ fn differs(node: &NodeDef) -> bool {
     }
 }
 
-/// Marked diagnostics without the E0060 of the nodes where it may differ.
-fn compared(marked: &[Diagnostic], free: &HashSet<usize>) -> Vec<Diagnostic> {
-    let stays = |d: &&Diagnostic| d.code != "E0060" || !free.contains(&unmark(&mut (*d).clone()).0);
-    marked.iter().filter(stays).cloned().collect()
+/// What the requests let differ.
+struct Free {
+    /// nodes, by address, whose E0060 may
+    loops: HashSet<usize>,
+    /// where the lines of typing may
+    typing: HashSet<Side>,
+}
+
+impl Free {
+    fn has(&self, d: &Diagnostic, places: &Places) -> bool {
+        let mut d = d.clone();
+        let mark = unmark(&mut d);
+        let line = place_of(&d, &mark, places);
+        match line.code {
+            60 => self.loops.contains(&mark.0),
+            5 | 40 | 41 | 80..=131 | 140..=145 => self.typing.contains(&(line.place, line.number, line.equation)),
+            _ => false,
+        }
+    }
+
+    /// The marked diagnostics that may not differ.
+    fn rest(&self, marked: &[Diagnostic], places: &Places) -> Vec<Diagnostic> {
+        marked.iter().filter(|d| !self.has(d, places)).cloned().collect()
+    }
+}
+
+/// Holds the E0095 of the amended copy to the integers of which the marked copy makes an Int32 that
+/// doesn't hold them: in each right-hand side or constant value the first is the same. (Behind it the
+/// amended copy may go on where the marked one stops, after a fold's seed.) Gives the sides where there is one.
+fn typing_differs(taken: &[(i64, usize)], amended: &[Diagnostic], places: &Places) -> HashSet<Side> {
+    let firsts = |all: &mut dyn Iterator<Item = usize>| {
+        let mut firsts = HashMap::new();
+        all.for_each(|at| drop(firsts.entry(places.sides[&at]).or_insert(at)));
+        firsts
+    };
+    let large = |(value, at): &(i64, usize)| i32::try_from(*value).is_err().then_some(*at);
+    let met = firsts(&mut taken.iter().filter_map(large));
+    let shown = amended.iter().filter(|d| d.code == "E0095").map(|d| unmark(&mut d.clone()).1);
+    assert_eq!(met, firsts(&mut { shown }), "E0095 is not where the Rust's Int32 doesn't hold an integer");
+    met.into_keys().collect()
 }
 
 /// The names of the loop that each node is shown.
@@ -196,12 +243,15 @@ fn loops_of(marked: &[Diagnostic], nodes: &[&NodeDef]) -> Vec<Option<Vec<String>
 
 /// The diagnostics with their marks, of the marked copy or of the amended one, which are held to the
 /// unchanged checker and to each other.
-fn diagnostics(project: &Project, nodes: &[&NodeDef], rule: Rule) -> Vec<Diagnostic> {
+fn diagnostics(project: &Project, nodes: &[&NodeDef], places: &Places, rule: Rule) -> Vec<Diagnostic> {
     let plain = ol_typecheck::check_project(project).diagnostics;
+    ol_marked::mark::taken();
     let marked = ol_marked::check_project(project).diagnostics;
+    let taken = ol_marked::mark::taken();
     let amended = ol_amended::check_project(project).diagnostics;
-    let free = nodes.iter().filter(|n| differs(n)).map(|n| address(*n)).collect();
-    assert_eq!(compared(&marked, &free), compared(&amended, &free), "more differs than request 2.6 says");
+    let loops = nodes.iter().filter(|n| differs(n)).map(|n| address(*n)).collect();
+    let free = Free { loops, typing: typing_differs(&taken, &amended, places) };
+    assert_eq!(free.rest(&marked, places), free.rest(&amended, places), "more differs than the requests say");
     for (rule, found) in [(Rule::Rust, &marked), (Rule::Amended, &amended)] {
         let walked: Vec<_> = nodes.iter().map(|n| walk(n, rule).path).collect();
         assert_eq!(loops_of(found, nodes), walked, "the walk's loops differ from the Rust's");
@@ -222,7 +272,7 @@ pub fn report(project: &Project, numbers: &HashMap<String, u64>, rule: Rule) -> 
     let places = Places::of(project);
     let followed = nodes.iter().map(|n| walk(n, rule).looks).sum();
     let mut report = Report { lines: vec![], followed, sources: vec![] };
-    for mut d in diagnostics(project, &nodes, rule) {
+    for mut d in diagnostics(project, &nodes, &places, rule) {
         let mark = unmark(&mut d);
         let line = place_of(&d, &mark, &places);
         let mut add = |line| {
@@ -298,7 +348,7 @@ fn name_in(d: &Diagnostic, line: &Line, nodes: &[&NodeDef]) -> Option<String> {
     };
     let inner = |before: &str, after: &str| Some(between(m, before, after));
     match line.code {
-        2 | 4 | 30 | 41 | 70 | 81..=87 | 90..=94 | 110 | 111 | 123 | 124 | 131 | 143..=146 => None,
+        2 | 4 | 30 | 41 | 70 | 81..=87 | 90..=95 | 110 | 111 | 123 | 124 | 131 | 143..=146 => None,
         1 => last("duplicate node name `"),
         3 => last("duplicate constant `"),
         5 => inner("constant `", "` declared as "),

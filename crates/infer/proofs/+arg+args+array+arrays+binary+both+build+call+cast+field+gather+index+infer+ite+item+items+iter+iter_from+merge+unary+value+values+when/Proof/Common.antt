@@ -99,6 +99,7 @@ use Rattle.rules.proofs.iterators.iterated.Reads as iterated-reads
 use Rattle.rules.proofs.iterators.kept_none.Reads as kept-none-reads
 use Rattle.rules.proofs.iterators.map_rule.Reads as map-rule-reads
 use Rattle.rules.proofs.iterators.take_array.Reads as take-array-reads
+use Rattle.rules.proofs.literal_rule.Reads as literal-rule-reads
 use Rattle.rules.proofs.operands.Reads as operands-reads
 use Rattle.rules.proofs.ports.called.Reads as called-reads
 use Rattle.rules.proofs.ports.find_port.Reads as find-port-reads
@@ -383,7 +384,7 @@ abbrev pub merge-claims : ℕ → merge-lts.Claims
 merge-claims t = (clock-rule-reads.Asked, clock-rule-reads.Learnt, both-below t, both.Post)
 
 abbrev pub unary-claims : ℕ → unary-lts.Claims
-unary-claims t = (is-signed-reads.Asked, is-signed-reads.Learnt, integer-literal-type-reads.Asked, integer-literal-type-reads.Learnt, infer-below t, infer.Post, unary-rule-reads.Asked, unary-rule-reads.Learnt)
+unary-claims t = (is-signed-reads.Asked, is-signed-reads.Learnt, integer-literal-type-reads.Asked, integer-literal-type-reads.Learnt, literal-rule-reads.Asked, literal-rule-reads.Learnt, infer-below t, infer.Post, unary-rule-reads.Asked, unary-rule-reads.Learnt)
 
 abbrev pub value-claims : ℕ → value-lts.Claims
 value-claims t = (find-port-reads.Asked, find-port-reads.Learnt, put-line-reads.Asked, put-line-reads.Learnt, skip-reads.Asked, skip-reads.Learnt, read-type-reads.Asked, read-type-reads.Learnt, hint-of-reads.Asked, hint-of-reads.Learnt, infer-below t, infer.Post, unless-agrees-reads.Asked, unless-agrees-reads.Learnt)

@@ -30,23 +30,29 @@ unary-integer-literal-type-requires t c κs = c .before .before .before .before 
 pub unary-add-next : (t : ℕ) → unary-lts.Need-add-next (unary-claims t) (unary-at t) unary.Post
 unary-add-next t c = omega (arith, cases.unary-in (c .before .before .before .before .before .before .before .before .before .before .before .before .pre .1 .0) (c .before .before .before .before .before .before .before .before .before .before .before .before .pre .1 .2))
 
+pub unary-literal-rule-requires : (t : ℕ) → unary-lts.Need-literal-rule-requires (unary-claims t) (unary-at t) unary.Post
+unary-literal-rule-requires t c κs = tt
+
 pub unary-infer-requires : (t : ℕ) → unary-lts.Need-infer-requires (unary-claims t) (unary-at t) unary.Post
 unary-infer-requires t c κs = (omega (arith, c .before .before .before .before .before .before .before .before .before .before .before .pre .0, cases.inside (c .before .before .before .before .before .before .before .before .before .before .before .pre .1 .0)), (cases.unary-given (c .before .before .before .before .before .before .before .before .before .before .before .pre .1 .0) (c .before .before .before .before .before .before .before .before .before .before .before .pre .1 .2), c .before .before .before .before .before .before .before .before .before .before .before .pre .1 .1))
 
 pub unary-unary-rule-requires : (t : ℕ) → unary-lts.Need-unary-rule-requires (unary-claims t) (unary-at t) unary.Post
 unary-unary-rule-requires t c κs = (c .before .before .before .before .before .before .before .before .before .before .before .before .before .before .before .before .before .pre .1 .0 .W, cases.unary-known (c .before .before .before .before .before .before .before .before .before .before .before .before .before .before .before .before .before .pre .1 .0) (c .before .before .before .before .before .before .before .before .before .before .before .before .before .before .before .before .before .pre .1 .2) (c .before .before .before .before .before .before .before .before .is-signed .ensures) (c .before .before .before .before .before .before .before .if1 .left) (c .before .before .before .before .before .infer .ensures) (c .before .before .if2 .taken))
 
-pub unary-returns : (t : ℕ) → unary-lts.Need-returns (unary-claims t) (unary-at t) unary.Post
-unary-returns t c = λ g. cases.unary-literal g (c .before .before .before .before .before .before .before .before .before .before .before .before .pre .1 .2) (c .before .before .before .is-signed .ensures) (c .before .before .if1 .taken) (c .integer-literal-type .ensures)
-
 pub unary-same-length : (t : ℕ) → unary-lts.Need-same-length (unary-claims t) (unary-at t) unary.Post
 unary-same-length t c = omega arith
+
+pub unary-returns : (t : ℕ) → unary-lts.Need-returns (unary-claims t) (unary-at t) unary.Post
+unary-returns t c = λ g. cases.unary-literal g (c .before .before .before .before .before .before .before .before .before .before .before .before .before .before .before .before .pre .1 .2) (c .before .before .before .before .before .before .before .is-signed .ensures) (c .before .before .before .before .before .before .if1 .taken) (c .before .before .before .before .integer-literal-type .ensures) (c .before .before .literal-rule .ensures)
+
+pub unary-same-length-2 : (t : ℕ) → unary-lts.Need-same-length-2 (unary-claims t) (unary-at t) unary.Post
+unary-same-length-2 t c = omega arith
 
 pub unary-returns-2 : (t : ℕ) → unary-lts.Need-returns-2 (unary-claims t) (unary-at t) unary.Post
 unary-returns-2 t c = λ g. cases.unary-done g (c .before .before .before .before .before .before .before .before .before .before .before .before .before .before .before .before .before .before .before .before .pre .1 .2) (c .before .before .before .before .before .before .before .before .before .before .before .is-signed .ensures) (c .before .before .before .before .before .before .before .before .before .before .if1 .left) (c .before .before .before .before .before .before .before .before .infer .ensures) (c .before .before .before .before .before .if2 .taken) (c .before .before .unary-rule .ensures)
 
-pub unary-same-length-2 : (t : ℕ) → unary-lts.Need-same-length-2 (unary-claims t) (unary-at t) unary.Post
-unary-same-length-2 t c = omega arith
+pub unary-same-length-3 : (t : ℕ) → unary-lts.Need-same-length-3 (unary-claims t) (unary-at t) unary.Post
+unary-same-length-3 t c = omega arith
 
 pub unary-returns-3 : (t : ℕ) → unary-lts.Need-returns-3 (unary-claims t) (unary-at t) unary.Post
 unary-returns-3 t c = λ g. cases.unary-stop g (c .before .before .before .before .before .before .before .before .before .before .before .before .before .before .before .pre .1 .2) (c .before .before .before .before .before .before .is-signed .ensures) (c .before .before .before .before .before .if1 .left) (c .before .before .before .infer .ensures) (c .if2 .left)

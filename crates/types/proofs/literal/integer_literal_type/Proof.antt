@@ -1,44 +1,39 @@
--- `types::literal::integer_literal_type` meets its contract: the resolved hint where the number fits it, else Int32. Assumes nothing.
-use mathlib.Core.Path.{refl, sym, _∙_}
+-- `types::literal::integer_literal_type` meets its contract: the resolved hint where the number fits it, else what Int32 gives. Assumes nothing.
+use mathlib.Core.Path.{sym, _∙_}
 use borrow.Author.Needs.{needs}
-use borrow.Author.Tests.{eqb-false}
-use Rattle.types.proofs.Literals.{bottom-is, picks-integer, takes-hint, leaves-hint, no-hint}
+use Rattle.types.proofs.Literals.{picks-integer, takes-hint, leaves-hint, no-hint}
 use Rattle.types.proofs.literal.integer_literal_type.Statement.{statement}
 use Rattle.types.proofs.literal.integer_literal_type.Tie as tie
 
 basic-kind-requires : tie.Need-basic-kind-requires
 basic-kind-requires c κs = search needs
 
-bottom-of-requires : tie.Need-bottom-of-requires
-bottom-of-requires c κs = search needs
-
 fits-in-integer-requires : tie.Need-fits-in-integer-requires
 fits-in-integer-requires c κs = search needs
 
 returns : tie.Need-returns
-returns c = takes-hint (picks-integer _) (c .before .before .before .before .before .if1 .taken) (c .before .before .before .basic-kind .ensures) (c .before .before .bottom-of .ensures) (λ ρ. sym (c .before .fits-in-integer .ensures ρ) ∙ c .if2 .taken)
+returns c = takes-hint (picks-integer _) (c .before .before .before .before .if1 .taken) (c .before .before .basic-kind .ensures) (sym (c .before .fits-in-integer .ensures) ∙ c .if2 .taken)
 
-bottom-of-requires-2 : tie.Need-bottom-of-requires-2
-bottom-of-requires-2 c κs = search needs
+int32-type-requires : tie.Need-int32-type-requires
+int32-type-requires c κs = search needs
 
 returns-2 : tie.Need-returns-2
-returns-2 c = leaves-hint (picks-integer _) (c .before .before .before .before .before .before .if1 .taken) (c .before .before .before .before .basic-kind .ensures) (c .before .before .before .bottom-of .ensures) (λ ρ. sym (c .before .before .fits-in-integer .ensures ρ) ∙ c .before .if2 .left) (bottom-is (c .bottom-of2 .ensures) (eqb-false 23 33 refl))
+returns-2 c = leaves-hint (picks-integer _) (c .before .before .before .before .before .if1 .taken) (c .before .before .before .basic-kind .ensures) (sym (c .before .before .fits-in-integer .ensures) ∙ c .before .if2 .left) (c .int32-type .ensures)
 
-bottom-of-requires-3 : tie.Need-bottom-of-requires-3
-bottom-of-requires-3 c κs = search needs
+int32-type-requires-2 : tie.Need-int32-type-requires-2
+int32-type-requires-2 c κs = search needs
 
 returns-3 : tie.Need-returns-3
-returns-3 c = no-hint (picks-integer _) (c .before .if1 .left) (bottom-is (c .bottom-of3 .ensures) (eqb-false 23 33 refl))
+returns-3 c = no-hint (picks-integer _) (c .before .if1 .left) (c .int32-type2 .ensures)
 
 pub integer-literal-type-spec : {M : Type 1} → statement M
 integer-literal-type-spec =
     tie.close
     (tie.spec
     basic-kind-requires
-    bottom-of-requires
     fits-in-integer-requires
     returns
-    bottom-of-requires-2
+    int32-type-requires
     returns-2
-    bottom-of-requires-3
+    int32-type-requires-2
     returns-3)

@@ -3,12 +3,9 @@ use mathlib.Core.Path.{refl, ap}
 use borrow.Author.Needs.{needs}
 use borrow.Author.Tests.{eqb-false}
 use Rattle.lustre.specs.Literal.{literal-type}
-use Rattle.types.proofs.Literals.{bottom-is, any-hint, literalOf, is-char, typed-as}
+use Rattle.types.proofs.Literals.{any-hint, literalOf, is-char, typed-as}
 use Rattle.types.proofs.literal.literal_type.Statement.{statement}
 use Rattle.types.proofs.literal.literal_type.Tie as tie
-
-bottom-of-requires : tie.Need-bottom-of-requires
-bottom-of-requires c κs = search needs
 
 integer-literal-type-requires : tie.Need-integer-literal-type-requires
 integer-literal-type-requires c κs = search needs
@@ -16,35 +13,30 @@ integer-literal-type-requires c κs = search needs
 float-literal-type-requires : tie.Need-float-literal-type-requires
 float-literal-type-requires c κs = search needs
 
-bottom-of-requires-2 : tie.Need-bottom-of-requires-2
-bottom-of-requires-2 c κs = search needs
-
 returns : tie.Need-returns
 unfolding literalOf literal-type
-returns c = typed-as (c .before .before .before .before .before .args .word) (c .before .before .before .before .before .args .k) (ap literalOf (c .before .match .keys1)) (any-hint (bottom-is (c .bottom-of .ensures) (eqb-false 20 33 refl)))
+returns c = typed-as _ _ (ap literalOf (c .match .keys1)) (any-hint 20 (eqb-false 20 0 refl) (eqb-false 20 33 refl))
 
 returns-2 : tie.Need-returns-2
 unfolding literalOf literal-type
-returns-2 c = typed-as (c .before .before .before .before .before .args .word) (c .before .before .before .before .before .args .k) (ap literalOf (c .before .match .keys2)) (c .integer-literal-type .ensures)
+returns-2 c = typed-as _ _ (ap literalOf (c .before .match .keys2)) (c .integer-literal-type .ensures)
 
 returns-3 : tie.Need-returns-3
 unfolding literalOf literal-type
-returns-3 c = typed-as (c .before .before .before .before .before .args .word) (c .before .before .before .before .before .args .k) (ap literalOf (c .before .match .keys3)) (c .float-literal-type .ensures)
+returns-3 c = typed-as _ _ (ap literalOf (c .before .match .keys3)) (c .float-literal-type .ensures)
 
 returns-4 : tie.Need-returns-4
 unfolding literal-type
 returns-4 c =
-    let r = c .before .match .rest in
-    typed-as (c .before .before .before .before .before .args .word) (c .before .before .before .before .before .args .k) (is-char (c .before .before .before .before .before .args .k) (r .0 .0 .1) (r .0 .1) (r .1)) (any-hint (bottom-is (c .bottom-of2 .ensures) (eqb-false 31 33 refl)))
+    let r = c .match .rest in
+    typed-as _ _ (is-char _ (r .0 .0 .1) (r .0 .1) (r .1)) (any-hint 31 (eqb-false 31 0 refl) (eqb-false 31 33 refl))
 
 pub literal-type-spec : {M : Type 1} → statement M
 literal-type-spec =
     tie.close
     (tie.spec
-    bottom-of-requires
     integer-literal-type-requires
     float-literal-type-requires
-    bottom-of-requires-2
     returns
     returns-2
     returns-3

@@ -1,8 +1,8 @@
--- `rules::is_between` meets its contract. Assumes nothing.
+-- `types::is_between` meets its contract. Assumes nothing.
 use mathlib.Core.Path.{refl}
 use borrow.Author.Tests.{lt-leb, le-leb}
-use Rattle.rules.proofs.is_between.Statement.{statement}
-use Rattle.rules.proofs.is_between.Tie as tie
+use Rattle.types.proofs.is_between.Statement.{statement}
+use Rattle.types.proofs.is_between.Tie as tie
 
 returns : tie.Need-returns
 returns c = rw (lt-leb _ _ (c .if1 .taken)) refl
