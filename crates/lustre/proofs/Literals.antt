@@ -2,16 +2,16 @@
 -- of the lines around it. Two tables, each proved by one statement.
 -- Assumes nothing.
 use Prim.Native.Nat.{ℕ}
+use Prim.Native.String.{String}
 use mathlib.Core.Path.{_≡_, refl}
 use mathlib.Core.Bool.{true}
 use mathlib.Core.List.{List, [], _∷_, _++_, map}
 use mathlib.Core.Option.{Option, none, some}
-use lib.Dec.{eqb}
 use lib.IntN.{ℤ, pos, negℤ}
 use mir.Syntax.{w64}
 use mir.Val.{ofZ}
-use Rattle.lustre.specs.Name.{if_then_else_, lookup}
-use Rattle.lustre.specs.Types.{Ty, Array, Boolean, Int8, Int16, Int32, Int64, Uint8, Uint16, Uint32, Uint64, Float32, Float64, Character}
+use Rattle.lustre.specs.Name.{if_then_else_, _is_, lookup}
+use Rattle.lustre.specs.Types.{Ty, Array, Boolean, Int8, Int16, Int32, Int64, Uint8, Uint16, Uint32, Uint64, Float32, Float64, Character, tuple-type, unit-type}
 use Rattle.lustre.specs.Expr.{Expr, Map, Fold, Not, Neg, Eq, Lt, Add, unary, binary, ite, pre, arrow, index, tuple, array, cast, []ᵉ, _∷ᵉ_, []ⁱ}
 use Rattle.lustre.specs.Project.{Function}
 use Rattle.lustre.specs.Line.{Out, at-constant, plain}
@@ -31,12 +31,13 @@ integers = Int8 ∷ Int16 ∷ Int32 ∷ Int64 ∷ Uint8 ∷ Uint16 ∷ Uint32 �
 abbrev aliases : List Ty
 aliases = map Named′ ("i8" ∷ "i16" ∷ "i32" ∷ "i64" ∷ "u8" ∷ "u16" ∷ "u32" ∷ "u64" ∷ [])
 
--- hints that are no integer type: none, basic types, arrays, aliases of these; names that resolve to no basic type or do not resolve
+-- hints that are no integer type: none, other basic types, tuple and unit, arrays, aliases of these; names that resolve to no basic type or
+-- do not resolve
 abbrev others : List (Option Ty)
 others =
     none
     ∷ map some
-    (Float32 ∷ Float64 ∷ Boolean ∷ Character ∷ Array 2 Int64 ∷ Named′ "real" ∷ Named′ "truth" ∷ Named′ "pair" ∷ Named′ "point" ∷ Named′ "spot" ∷ Named′ "circle" ∷ [])
+    (Float32 ∷ Float64 ∷ Boolean ∷ Character ∷ tuple-type ∷ unit-type ∷ Array 2 Int64 ∷ Named′ "real" ∷ Named′ "truth" ∷ Named′ "pair" ∷ Named′ "point" ∷ Named′ "spot" ∷ Named′ "circle" ∷ [])
 
 -- the aliases; `circle` leads to itself, `spot` to `point`, which is none
 abbrev scope : Scope
@@ -55,22 +56,26 @@ scope = record {
 
 -- what a letter of a row stands for: h the hint t, i Int32, x no type and E0095 at step 5
 abbrev told : ℕ → Ty → Out Ty
-told c t = if eqb c 104 then (some t, []) else if eqb c 105 then (some Int32, []) else (none, plain 5 95 ∷ [])
+told c t = if (c ∷ []) is text "h" then (some t, []) else if (c ∷ []) is text "i" then (some Int32, []) else (none, plain 5 95 ∷ [])
 
--- a letter for each type
-abbrev told-each : List ℕ → List Ty → List (Out Ty)
-told-each [] ts = []
-told-each (c ∷ cs) [] = []
-told-each (c ∷ cs) (t ∷ ts) = told c t ∷ told-each cs ts
+-- a letter for each integer type
+abbrev own : List ℕ → List Ty → List (Out Ty)
+own [] ts = []
+own (c ∷ cs) [] = []
+own (c ∷ cs) (t ∷ ts) = told c t ∷ own cs ts
+
+-- one letter for all other hints
+abbrev other : List ℕ → List (Out Ty)
+other [] = []
+other (c ∷ cs) = map (λ h. told c Int32) others
 
 -- what an expression at step 5 gets under each integer type, under each alias of one, and under each other hint
 abbrev typed : Expr → List (Out Ty)
 typed e = map (infer scope true 5 e) (map some integers ++ map some aliases ++ others)
 
--- The row of an integer: a letter for each integer type, and the one for all other hints. An alias of an integer type is as that type
-infix 50 _under_else_
-abbrev _under_else_ : Expr → List ℕ → ℕ → List (Out Ty) × List (Out Ty)
-e under own else other = (typed e, told-each own integers ++ told-each own integers ++ map (λ h. told other Int32) others)
+-- the same by letters; an alias of an integer type is as that type
+abbrev letters : String → String → String → List (Out Ty)
+letters s u o = own (text s ++ text u) integers ++ own (text s ++ text u) integers ++ other (text o)
 
 -- an integer as a word
 abbrev word : ℤ → Expr
@@ -80,49 +85,42 @@ word n = num (ofZ w64 n)
 abbrev negated : ℤ → Expr
 negated n = unary Neg (num (ofZ w64 (negℤ n)))
 
--- the two rows of an integer
-abbrev rows : ℤ → List ℕ → ℕ → List (List (Out Ty) × List (Out Ty))
-rows n own other = (word n under own else other) ∷ (negated n under own else other) ∷ []
+-- the rows of an integer: Int8 to Int64, Uint8 to Uint64, other hints
+abbrev rows : ℤ → String → String → String → List (List (Out Ty) × List (Out Ty))
+rows n s u o = (typed (word n), letters s u o) ∷ (typed (negated n), letters s u o) ∷ []
 
 -- −n
 abbrev below : ℕ → ℤ
 below n = negℤ (pos n)
 
--- the letters
-abbrev i : ℕ
-i = 105
-
-abbrev x : ℕ
-x = 120
-
--- Int8 to Int64, then Uint8 to Uint64; 2^63 is a minus on −2^63, and −2^63 a word alone
+-- −2^63 is a word alone, and 2^63 a minus on it
 abbrev pub bounds : List (List (Out Ty) × List (Out Ty))
 bounds =
-    (word (below 9_223_372_036_854_775_808) under text "xxxhxxxx" else x)
-    ∷ (rows (below 9_223_372_036_854_775_807) (text "xxxhxxxx") x
-    ++ rows (below 2_147_483_649) (text "xxxhxxxx") x
-    ++ rows (below 2_147_483_648) (text "iihhiiii") i
-    ++ rows (below 32_769) (text "iihhiiii") i
-    ++ rows (below 32_768) (text "ihhhiiii") i
-    ++ rows (below 129) (text "ihhhiiii") i
-    ++ rows (below 128) (text "hhhhiiii") i
-    ++ rows (below 1) (text "hhhhiiii") i
-    ++ rows (pos 0) (text "hhhhhhhh") i
-    ++ rows (pos 127) (text "hhhhhhhh") i
-    ++ rows (pos 128) (text "ihhhhhhh") i
-    ++ rows (pos 255) (text "ihhhhhhh") i
-    ++ rows (pos 256) (text "ihhhihhh") i
-    ++ rows (pos 32_767) (text "ihhhihhh") i
-    ++ rows (pos 32_768) (text "iihhihhh") i
-    ++ rows (pos 65_535) (text "iihhihhh") i
-    ++ rows (pos 65_536) (text "iihhiihh") i
-    ++ rows (pos 2_147_483_647) (text "iihhiihh") i
-    ++ rows (pos 2_147_483_648) (text "xxxhxxhh") x
-    ++ rows (pos 3_000_000_000) (text "xxxhxxhh") x
-    ++ rows (pos 4_294_967_295) (text "xxxhxxhh") x
-    ++ rows (pos 4_294_967_296) (text "xxxhxxxh") x
-    ++ rows (pos 9_223_372_036_854_775_807) (text "xxxhxxxh") x
-    ++ ((negated (pos 9_223_372_036_854_775_808) under text "xxxxxxxh" else x) ∷ []))
+    (typed (word (below 9_223_372_036_854_775_808)), letters "xxxh" "xxxx" "x")
+    ∷ (rows (below 9_223_372_036_854_775_807) "xxxh" "xxxx" "x"
+    ++ rows (below 2_147_483_649) "xxxh" "xxxx" "x"
+    ++ rows (below 2_147_483_648) "iihh" "iiii" "i"
+    ++ rows (below 32_769) "iihh" "iiii" "i"
+    ++ rows (below 32_768) "ihhh" "iiii" "i"
+    ++ rows (below 129) "ihhh" "iiii" "i"
+    ++ rows (below 128) "hhhh" "iiii" "i"
+    ++ rows (below 1) "hhhh" "iiii" "i"
+    ++ rows (pos 0) "hhhh" "hhhh" "i"
+    ++ rows (pos 127) "hhhh" "hhhh" "i"
+    ++ rows (pos 128) "ihhh" "hhhh" "i"
+    ++ rows (pos 255) "ihhh" "hhhh" "i"
+    ++ rows (pos 256) "ihhh" "ihhh" "i"
+    ++ rows (pos 32_767) "ihhh" "ihhh" "i"
+    ++ rows (pos 32_768) "iihh" "ihhh" "i"
+    ++ rows (pos 65_535) "iihh" "ihhh" "i"
+    ++ rows (pos 65_536) "iihh" "iihh" "i"
+    ++ rows (pos 2_147_483_647) "iihh" "iihh" "i"
+    ++ rows (pos 2_147_483_648) "xxxh" "xxhh" "x"
+    ++ rows (pos 3_000_000_000) "xxxh" "xxhh" "x"
+    ++ rows (pos 4_294_967_295) "xxxh" "xxhh" "x"
+    ++ rows (pos 4_294_967_296) "xxxh" "xxxh" "x"
+    ++ rows (pos 9_223_372_036_854_775_807) "xxxh" "xxxh" "x"
+    ++ ((typed (negated (pos 9_223_372_036_854_775_808)), letters "xxxx" "xxxh" "x") ∷ []))
 
 -- every row holds
 pub bounds-hold : map (λ r. r .0) bounds ≡ map (λ r. r .1) bounds

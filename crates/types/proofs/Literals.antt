@@ -2,7 +2,7 @@
 use Prim.Native.Nat.{ℕ, zero, suc, _-_, _*_, _/_, _^_, _≤_, _<_, zero-le}
 use mathlib.Core.Path.{_≡_, refl, ap, sym, _∙_}
 use mathlib.Core.Bool.{Bool, true, false, not}
-use mathlib.Core.List.{List, []}
+use mathlib.Core.List.{List}
 use mathlib.Core.Option.{Option, none, some}
 use native.Mathlib.Omega.{arith}
 use native.Mathlib.Nat.{zero-add, div-lt-iff-lt-mul}
@@ -14,7 +14,7 @@ use lib.Pow.{pow-pos, pow-add}
 use mir.Syntax.{w64}
 use mir.Val.{toZ, ofZ, SFits, Fits, sel}
 use mir.ValLaws.{toZ-ofZ, toZ-pos, toZ-fits, ofZ-toZ}
-use borrow.Author.Tests.{eq-eqb, ne-eqb, eqb-true, eqb-false, le-leb, lt-leb, le-ltb, lt-ltb}
+use borrow.Author.Tests.{eq-eqb, ne-eqb, eqb-false, le-leb, lt-leb, le-ltb, lt-ltb}
 use Rattle.lustre.specs.Name.{Name, if_then_else_}
 use Rattle.lustre.specs.Types.{Ty, basic, Array, Named, within, is-float, signed, range-of}
 use Rattle.lustre.specs.Expr.{Literal, bool, int, float, char}

@@ -125,7 +125,7 @@ fn fits_in_integer(word: u64, negated: bool, k: u8) -> bool
     value_fits(minus(v), k)
 }
 
-// Int32 if a word's number, under a minus if negated, fits it. By request 2.10 no other has a type where it takes no hint.
+// Int32 if a word's number, under a minus if negated, fits it, else none: request 2.10, where the Rust has Int32 for every number.
 fn int32_type(word: u64, negated: bool) -> u8
     ensures { λ r. ⌜ KindIs (int32-type (numberOf negated word)) r ⌝ }
 {
