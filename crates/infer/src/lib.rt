@@ -60,10 +60,11 @@ ghost use lib.Dec.{eqb};
 ghost use Prim.Native.Nat.{_<_, _≤_};
 ghost use lib.ListN.{length, getD};
 ghost use Rattle.lustre.specs.Grammar.{literal-kind, unary-kind, when-kind, iterate-kind, iterate-from-kind};
-ghost use Rattle.lustre.specs.Expr.{size};
+ghost use Rattle.lustre.specs.Expr.{Literal, size};
+ghost use Rattle.lustre.specs.Literal.{literal-type};
 ghost use Rattle.lustre.specs.Infer.{infer as infer-of};
 ghost use Rattle.types.specs.Value.{Known};
-ghost use Rattle.types.specs.Number.{asHint};
+ghost use Rattle.types.specs.Number.{asHint, Hinted};
 ghost use Rattle.rules.specs.Post.{Given, Done, Inferring};
 ghost use Rattle.rules.specs.Lists.{GivenArg, DoneArg, GivenArgs, DoneArgs, DoneItem, GivenItems, DoneItems, GivenValue, DoneValue, GivenValues, DoneValues, GivenArrays, DoneArrays};
 ghost use Rattle.infer.specs.Post.{Kind, GivenBoth, DoneBoth, GivenGather, DoneGather};
@@ -102,7 +103,7 @@ fn is_signed(o: u8, k: u8) -> bool
     false
 }
 
-// A literal, lib.rs 721 to 729.
+// The kind of a literal's type, lib.rs 721 to 729, or 0. The hint is only read here, apart from the lines, so that it need not be copied.
 fn literal(
     kinds: &[u8],
     words: &[u64],
@@ -111,18 +112,13 @@ fn literal(
     rw: &[u64],
     at: usize,
     hint: Hint,
-    q: Spot,
-    out: &mut [u64],
-    n: u64,
-) -> Inferred
-    requires { ⌜ Given (now kinds) (now words) (now scope) (now rk) (now rw) at hint × (length (now rk) ≤ 4096) × Kind literal-kind (now rk) at ⌝ }
-    ensures { λ r. ⌜ Inferring (now (kinds .entry)) (now (words .entry)) (now (scope .entry)) (now (rk .entry)) (now (rw .entry)) at hint q (now (out .entry)) n r (now (out .exit)) ⌝ }
+) -> u8
+    requires { ⌜ Given (now kinds) (now words) (now scope) (now rk) (now rw) at hint ⌝ }
+    ensures { λ r. ⌜ ((l : Literal) → literal-kind l ≡ getD (now (rk .entry)) at 0 → Hinted (now (kinds .entry)) (now (words .entry)) (now (scope .entry)) hint (λ al. literal-type al l (getD (now (rw .entry)) at 0)) r) ⌝ }
 {
     let k = rk[at];
     let w = rw[at];
-    let t = literal_type(kinds, words, scope, k, w, hint);
-    let next = at + 1;
-    literal_rule(t, at, next, q, out, n)
+    literal_type(kinds, words, scope, k, w, hint)
 }
 
 // A variable, lib.rs 754.
@@ -1158,7 +1154,9 @@ pub fn infer(
 {
     let k = rk[at];
     if k < 44 {
-        return literal(kinds, words, scope, rk, rw, at, hint, q, out, n);
+        let t = literal(kinds, words, scope, rk, rw, at, hint);
+        let next = at + 1;
+        return literal_rule(t, at, next, q, out, n);
     }
     match k {
         44 => variable(kinds, words, scope, rk, rw, at, hint, q, out, n),

@@ -290,6 +290,8 @@ pub +arg+args+array+arrays+binary+both+build+call+cast+field+gather+index+infer+
     infer.Post
     (Infer.infer-shared-slice-read-k t)
     (Infer.infer-literal-requires t)
+    (Infer.infer-add-next t)
+    (Infer.infer-literal-rule-requires t)
     (Infer.infer-same-length t)
     (Infer.infer-returns t)
     (Infer.infer-variable-requires t)

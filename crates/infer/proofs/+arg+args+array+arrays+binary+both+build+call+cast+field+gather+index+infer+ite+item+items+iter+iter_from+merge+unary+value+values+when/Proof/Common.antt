@@ -363,7 +363,7 @@ abbrev pub index-claims : ℕ → index-lts.Claims
 index-claims t = (no-hint-reads.Asked, no-hint-reads.Learnt, infer-below t, infer.Post, basic-hint-reads.Asked, basic-hint-reads.Learnt, index-rule-reads.Asked, index-rule-reads.Learnt)
 
 abbrev pub infer-claims : ℕ → infer-lts.Claims
-infer-claims t = (literal-reads.Asked, literal-reads.Learnt, variable-reads.Asked, variable-reads.Learnt, unary-below t, unary.Post, ite-below t, ite.Post, infer-below t, infer.Post, both-below t, both.Post, call-below t, call.Post, field-below t, field.Post, index-below t, index.Post, tuple-reads.Asked, tuple-reads.Learnt, array-below t, array.Post, build-below t, build.Post, cast-below t, cast.Post, when-below t, when.Post, merge-below t, merge.Post, iter-below t, iter.Post, iter-from-below t, iter-from.Post, binary-below t, binary.Post)
+infer-claims t = (literal-reads.Asked, literal-reads.Learnt, literal-rule-reads.Asked, literal-rule-reads.Learnt, variable-reads.Asked, variable-reads.Learnt, unary-below t, unary.Post, ite-below t, ite.Post, infer-below t, infer.Post, both-below t, both.Post, call-below t, call.Post, field-below t, field.Post, index-below t, index.Post, tuple-reads.Asked, tuple-reads.Learnt, array-below t, array.Post, build-below t, build.Post, cast-below t, cast.Post, when-below t, when.Post, merge-below t, merge.Post, iter-below t, iter.Post, iter-from-below t, iter-from.Post, binary-below t, binary.Post)
 
 abbrev pub ite-claims : ℕ → ite-lts.Claims
 ite-claims t = (basic-hint-reads.Asked, basic-hint-reads.Learnt, infer-below t, infer.Post, is-truth-reads.Asked, is-truth-reads.Learnt, both-below t, both.Post, fail-plain-reads.Asked, fail-plain-reads.Learnt)

@@ -13,13 +13,19 @@ pub infer-shared-slice-read-k : (t : ℕ) → infer-lts.Need-shared-slice-read-k
 infer-shared-slice-read-k t c = cases.inside (c .before .before .before .before .before .before .before .pre .1 .0)
 
 pub infer-literal-requires : (t : ℕ) → infer-lts.Need-literal-requires (infer-claims t) (infer-at t) infer.Post
-infer-literal-requires t c κs = (c .before .before .before .before .before .before .before .before .before .pre .1 .0, c .before .before .before .before .before .before .before .before .before .pre .1 .1, cases.literal-here (c .before .before .before .before .before .before .before .before .before .pre .1 .0) (c .before .if1 .taken))
+infer-literal-requires t c κs = c .before .before .before .before .before .before .before .before .pre .1 .0
+
+pub infer-add-next : (t : ℕ) → infer-lts.Need-add-next (infer-claims t) (infer-at t) infer.Post
+infer-add-next t c = omega (arith, cases.inside (c .before .before .before .before .before .before .before .before .before .pre .1 .0))
+
+pub infer-literal-rule-requires : (t : ℕ) → infer-lts.Need-literal-rule-requires (infer-claims t) (infer-at t) infer.Post
+infer-literal-rule-requires t c κs = tt
 
 pub infer-same-length : (t : ℕ) → infer-lts.Need-same-length (infer-claims t) (infer-at t) infer.Post
 infer-same-length t c = omega arith
 
 pub infer-returns : (t : ℕ) → infer-lts.Need-returns (infer-claims t) (infer-at t) infer.Post
-infer-returns t c = c .before .before .literal .ensures
+infer-returns t c = λ g. cases.literal-done g (cases.literal-here g (c .before .before .before .before .before .if1 .taken)) (c .before .before .before .before .literal .ensures) (c .before .before .literal-rule .ensures)
 
 pub infer-variable-requires : (t : ℕ) → infer-lts.Need-variable-requires (infer-claims t) (infer-at t) infer.Post
 infer-variable-requires t c κs = (c .before .before .before .before .before .before .before .before .before .before .pre .1 .0, c .before .before .before .before .before .before .before .before .before .before .pre .1 .1, c .before .match .keys1)
