@@ -43,6 +43,23 @@ def nested(n):
             f"11 n, {inputs}, 3 1, 7 x, 32 1, 20, 3 0, 3 1, 13, 3 1, 8 x, {rhs}, 3 0")
 
 
+KNOWN = {"a": "23", "b": "20", "c": "23", "t": "33 T"}
+F = "70 f, 3 1, 41 0"
+G = "70 g, 3 1, 41 0"
+
+
+# an operator n that defines the names given, those of KNOWN as outputs, by rhs; its inputs are s of Int32 and y of Bool. Imported are f
+# with outputs T, an alias of Int32, and Bool, g with three of Int32, h with none
+def bound(names, rhs):
+    names = names.split()
+    outs = [x for x in KNOWN if x in names]
+    ports = "".join(f", 7 {x}, {KNOWN[x]}" for x in outs)
+    lhs = "".join(f", 8 {x}" for x in names)
+    return (f"1 1, 2 p, 3 1, 4 T, 23, 3 0, 3 4, 11 n, 3 2, 7 s, 23, 7 y, 20, 3 {len(outs)}{ports}, 3 0, 3 1, 13, 3 {len(names)}{lhs}, {rhs}, 3 0, "
+            "12 f, 3 1, 7 s, 23, 3 2, 7 o, 33 T, 7 q, 20, 3 0, 3 0, 3 0, 12 g, 3 1, 7 s, 23, 3 3, 7 o, 23, 7 q, 23, 7 r, 23, 3 0, 3 0, 3 0, "
+            "12 h, 3 0, 3 0, 3 0, 3 0, 3 0")
+
+
 RECORD_T = "3 2, 4 X, 23, 5 X, 3 1, 7 u, 23"
 
 CASES = [
@@ -74,6 +91,18 @@ CASES = [
     (value("41 2147483648"), 0, ["E0095 node 0 0 0 -"]),
     (value("46, 41 2147483648"), 0, []),
     (value("57, 41 1, 41 3000000000"), 0, ["E0095 node 0 0 2 -"]),
+    # request 2.8: the numbers of names and members, and the types by position where the side is itself a call
+    (bound("a b", F), 0, []),
+    (bound("a b c", F), 0, ["E0042 node 0 0 - -"]),
+    (bound("a", F), 0, ["E0042 node 0 0 - -"]),
+    (bound("", F), 0, ["E0042 node 0 0 - -"]),
+    (bound("z", F), 0, ["E0020 node 0 0 - z", "E0042 node 0 0 - -"]),
+    (bound("b a", F), 0, ["E0043 node 0 0 - b", "E0043 node 0 0 - a"]),
+    (bound("b a", f"67, 40 1, {F}, {F}"), 0, []),
+    (bound("a b", f"67, 40 1, {F}, {G}"), 0, ["E0091 node 0 0 0 -"]),
+    (bound("b", "73 1, 41 0"), 0, []),
+    (bound("", "73 0"), 0, []),
+    (bound("", "70 h, 3 0"), 0, ["E0041 node 0 0 - -"]),
     # an empty array: without a hint, under an array of 5, under one of 0
     (value("74 0"), 0, ["E0123 node 0 0 0 -"]),
     (value("74 0", "32 5, 23"), 0, ["E0040 node 0 0 - x"]),

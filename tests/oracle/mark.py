@@ -47,15 +47,60 @@ AMENDMENTS = [
      "            Literal::Int { value } => held(*value, integer_literal_type(*value, hint, tctx), diags, ctx)?,\n"),
     ("                return Some(integer_literal_type(-*value, hint, tctx));\n",
      "                return held(-*value, integer_literal_type(-*value, hint, tctx), diags, ctx);\n"),
+    # request 2.8: a tuple type carries its number of members, and an equation is held to it
+    ("                _ => Some(Type::named(\"__tuple__\")),\n", "                n => Some(tuple_of(n)),\n"),
+    ("        Expr::Tuple { .. } => Some(Type::named(\"__tuple__\")),\n",
+     "        Expr::Tuple { items } => Some(tuple_of(items.len())),\n"),
+    ("        if let Some(rhs_ty) = inferred {\n            match eq.lhs.len() {\n",
+     "        if let Some(rhs_ty) = inferred {\n            match eq.lhs.len() {"
+     " _ if members(&rhs_ty).is_some() => bind_tuple(eq, &rhs_ty, &env, sigs, tctx, diags, &eq_ctx),\n"),
 ]
 
-HELD = """
+ADDED = """
 fn held(value: i64, ty: Type, diags: &mut Vec<Diagnostic>, ctx: &str) -> Option<Type> {
     if fits_in_integer(value, &ty) {
         return Some(ty);
     }
     diags.push_marked(Diagnostic::error("E0095", format!("{value} fits no type")).with_context(ctx.to_string()));
     None
+}
+
+/// No name of a model holds a zero byte.
+const TUPLE: &str = "__tuple__\\0";
+
+fn tuple_of(members: usize) -> Type {
+    Type::named(format!("{TUPLE}{members}"))
+}
+
+fn members(ty: &Type) -> Option<usize> {
+    match ty {
+        Type::Named { name } => name.strip_prefix(TUPLE).map(|n| n.parse().expect("a number")),
+        _ => None,
+    }
+}
+
+fn bind_tuple(
+    eq: &ol_ir::Equation,
+    ty: &Type,
+    env: &BTreeMap<String, Type>,
+    sigs: &HashMap<String, (Vec<Port>, Vec<Port>, NodeKind)>,
+    tctx: &TypeContext,
+    diags: &mut Vec<Diagnostic>,
+    ctx: &str,
+) {
+    if members(ty) != Some(eq.lhs.len()) {
+        diags.push_marked(Diagnostic::error("E0042", "another number of members than names").with_context(ctx.to_string()));
+        return;
+    }
+    let Expr::Call { node: callee, .. } = &eq.rhs else { return };
+    assert_eq!(sigs[callee].1.len(), eq.lhs.len(), "a call has as many members as outputs");
+    for (name, output) in eq.lhs.iter().zip(&sigs[callee].1) {
+        let fits = |want| types_compatible(tctx, want, &output.ty);
+        if !env.get(name).map_or(true, fits) {
+            let message = format!("name `{name}` is not of its output's type");
+            diags.push_marked(Diagnostic::error("E0043", message).with_context(ctx.to_string()));
+        }
+    }
 }
 """
 
@@ -81,7 +126,7 @@ def main():
     source, plain, amended = sys.argv[1:]
     with open(source, encoding="utf-8") as f:
         text = marked(f.read())
-    for target, copy in ((plain, text), (amended, replaced(text, AMENDMENTS) + HELD)):
+    for target, copy in ((plain, text), (amended, replaced(text, AMENDMENTS) + ADDED)):
         with open(target, "w", encoding="utf-8") as f:
             f.write(copy)
 

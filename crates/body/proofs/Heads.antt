@@ -7,7 +7,7 @@ use mathlib.Core.List.{[], _∷_}
 use lib.Dec.{eqb}
 use borrow.Author.Tests.{ne-eqb}
 use Rattle.lustre.specs.Name.{Name, if_then_else_, mem}
-use Rattle.lustre.specs.Types.{basic, Array, Named}
+use Rattle.lustre.specs.Types.{basic, Array, Named, Tuple}
 use Rattle.lustre.specs.Expr.{Literal, UnaryOp, BinOp, IterKind, form, literal-form}
 use Rattle.lustre.specs.Expr.{const, var, unary, binary, ite, pre, arrow, call, field, index, tuple, array, struct, cast, when, merge, iterate, iterate-from}
 use Rattle.lustre.specs.Expr.{bool, int, float, char, Not, Neg, And, Or, Xor, Implies, Eq, Neq, Lt, Le, Gt, Ge, Add, Sub, Mul, Div, Mod, BitAnd, BitOr, BitXor, Shl, Shr, Map, Fold}
@@ -103,6 +103,7 @@ module _ (S : Source) where
   here (of-type (basic b)) at s = silent (of-type (basic b)) (s .0) (basic-says b (s .1)) refl
   here (of-type (Array n t)) at s = silent (of-type (Array n t)) (s .0) (refl, refl, refl) refl
   here (of-type (Named x)) at s = silent (of-type (Named x)) (s .0) (refl, refl, refl) refl
+  here (of-type (Tuple n)) at s = absurd s
   here (of-list es) at s = silent (of-list es) (s .0) (refl, refl, refl) refl
   here (of-values vs) at s = silent (of-values vs) (s .0) (refl, refl, refl) refl
   here (of-value x e) at s = silent (of-value x e) (s .0) (refl, refl, refl) refl

@@ -7,7 +7,7 @@ use mathlib.Core.Bool.{true, false, _||_}
 use mathlib.Core.List.{List, [], _∷_, _++_, tail}
 use lib.ListN.{length}
 use Rattle.lustre.specs.Name.{Name, if_then_else_}
-use Rattle.lustre.specs.Expr.{Expr, Form, integer, temporal, iterator, other, form, any-temporal, contains-temporal, size}
+use Rattle.lustre.specs.Expr.{Expr, Form, integer, temporal, iterator, calling, other, form, any-temporal, contains-temporal, size}
 use Rattle.lustre.specs.Placement.{iterators, nested}
 use Rattle.lines.specs.Lines.{Noted}
 use Rattle.lines.specs.declared.Spot.{Spot}
@@ -28,6 +28,7 @@ module _ (x : ℕ × Expr) (xs : List (ℕ × Expr)) where
       go (integer v) e = rw (e, any-temporal)
       go temporal e = rw (e, any-temporal)
       go iterator e = rw (e, any-temporal)
+      go (calling g) e = rw (e, any-temporal)
       go other e = rw (e, any-temporal)
 
   iterators-more : iterators (x ∷ xs) ≡ (if is-iterator (form (x .1)) then x .0 ∷ [] else []) ++ iterators xs
@@ -38,6 +39,7 @@ module _ (x : ℕ × Expr) (xs : List (ℕ × Expr)) where
       go (integer v) e = rw (e, iterators)
       go temporal e = rw (e, iterators)
       go iterator e = rw (e, iterators)
+      go (calling g) e = rw (e, iterators)
       go other e = rw (e, iterators)
 
 -- one part more

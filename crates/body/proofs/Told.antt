@@ -7,8 +7,8 @@ use mathlib.Core.Path.{_≡_, refl, ap}
 use mathlib.Core.Bool.{Bool, true, false, true≢false}
 use mathlib.Core.List.{List, [], _∷_, _++_, append-assoc, append-nil}
 use Rattle.lustre.specs.Name.{Name}
-use Rattle.lustre.specs.Types.{basic, Array, Named}
-use Rattle.lustre.specs.Expr.{Expr, Exprs, Inits, Form, integer, temporal, iterator, other, form, size, visit, visits, visitsⁱ}
+use Rattle.lustre.specs.Types.{basic, Array, Named, Tuple}
+use Rattle.lustre.specs.Expr.{Expr, Exprs, Inits, Form, integer, temporal, iterator, calling, other, form, size, visit, visits, visitsⁱ}
 use Rattle.lustre.specs.Expr.{const, var, unary, binary, ite, pre, arrow, call, field, index, tuple, array, struct, cast, when, merge, iterate, iterate-from, []ᵉ, _∷ᵉ_, []ⁱ, init}
 use Rattle.lustre.specs.Init.{pres, pres-each, pres-eachⁱ}
 use Rattle.lustre.specs.Deps.{reads, reads-each, reads-eachⁱ}
@@ -54,12 +54,14 @@ unfoldable pub is-temporal : Form → Bool
 is-temporal (integer v) = false
 is-temporal temporal = true
 is-temporal iterator = false
+is-temporal (calling f) = false
 is-temporal other = false
 
 unfoldable pub is-iterator : Form → Bool
 is-iterator (integer v) = false
 is-iterator temporal = false
 is-iterator iterator = true
+is-iterator (calling f) = false
 is-iterator other = false
 
 -- ---- every sub-expression
@@ -96,6 +98,7 @@ unfolding visit told visit-part
 visit-opens (of-type (basic b)) at = refl
 visit-opens (of-type (Array n t)) at = refl
 visit-opens (of-type (Named x)) at = refl
+visit-opens (of-type (Tuple n)) at = refl
 visit-opens (of-list es) at = visits-items es (at + 1)
 visit-opens (of-values vs) at = visits-values vs (at + 1)
 visit-opens (of-value x e) at = simp append-nil
@@ -145,6 +148,7 @@ module _ (under : Bool) where
   pres-opens (of-type (basic b)) at h = refl
   pres-opens (of-type (Array n t)) at h = refl
   pres-opens (of-type (Named x)) at h = refl
+  pres-opens (of-type (Tuple n)) at h = refl
   pres-opens (of-list es) at h = pres-items es (at + 1)
   pres-opens (of-values vs) at h = pres-values vs (at + 1)
   pres-opens (of-value x e) at h = simp append-nil
@@ -219,6 +223,7 @@ unfolding reads told reads-part head-names
 reads-opens (of-type (basic b)) at h = refl
 reads-opens (of-type (Array n t)) at h = refl
 reads-opens (of-type (Named x)) at h = refl
+reads-opens (of-type (Tuple n)) at h = refl
 reads-opens (of-list es) at h = reads-items es (at + 1)
 reads-opens (of-values vs) at h = reads-values vs (at + 1)
 reads-opens (of-value x e) at h = simp append-nil

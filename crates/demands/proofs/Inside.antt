@@ -10,7 +10,7 @@ use lib.ListN.{length}
 use borrow.Author.Tests.{eqb-true}
 use Rattle.lustre.specs.Name.{Name, mem}
 use Rattle.lustre.specs.Records.{Rec}
-use Rattle.lustre.specs.Types.{Ty, basic, Array, Named}
+use Rattle.lustre.specs.Types.{Ty, basic, Array, Named, Tuple}
 use Rattle.lustre.specs.Expr.{Expr, Exprs, Inits, Literal, UnaryOp, BinOp, IterKind}
 use Rattle.lustre.specs.Expr.{const, var, unary, binary, ite, pre, arrow, call, field, index, tuple, array, struct, cast, when, merge, iterate, iterate-from, []ᵉ, _∷ᵉ_, []ⁱ, init}
 use Rattle.lustre.specs.Expr.{bool, int, float, char, Not, Neg, And, Or, Xor, Implies, Eq, Neq, Lt, Le, Gt, Ge, Add, Sub, Mul, Div, Mod, BitAnd, BitOr, BitXor, Shl, Shr, Map, Fold}
@@ -114,6 +114,7 @@ unfolding flat-type Writable-type mem
 in-type (basic b) h = next _ (basic-in b h) done
 in-type (Array n t) h = next _ refl (in-type t h)
 in-type (Named x) h = next _ refl done
+in-type (Tuple n) h = absurd h
 
 in-literal : (l : Literal) → ends-node (literal-kind l) ≡ false
 unfolding mem

@@ -6,7 +6,7 @@ use mathlib.Core.List.{List}
 use mathlib.Core.Option.{Option, none, some}
 use Rattle.lustre.specs.Name.{Name}
 use Rattle.lustre.specs.Records.{Rec, WordClass, no-word, a-name, a-count, a-length, a-truth, any-word, a-byte, word-class}
-use Rattle.lustre.specs.Types.{Ty, basic, Array, Named}
+use Rattle.lustre.specs.Types.{Ty, basic, Array, Named, Tuple}
 use Rattle.lustre.specs.Expr.{Expr, Exprs, Inits, const, var, unary, binary, ite, pre, arrow, call, field, index, tuple, array, struct, cast, when, merge, iterate, iterate-from, []ᵉ, _∷ᵉ_, []ⁱ, init}
 use Rattle.lustre.specs.Project.{Port, Decl, Alias, Record, Enum, Constant, Equation, Node, Package, Project}
 use Rattle.lustre.specs.Line.{Note}
@@ -22,6 +22,7 @@ module _ (K : Name → Type 0) where
   Known-type (basic b) = Unit {0}
   Known-type (Array n t) = Known-type t
   Known-type (Named x) = K x
+  Known-type (Tuple n) = Unit {0}
 
   unfoldable mutual
     pub Known-expr : Expr → Type 0

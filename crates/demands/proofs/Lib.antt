@@ -12,6 +12,7 @@ pub mod Notes
 pub mod Speaks
 pub mod Ranges
 pub mod Integers
+pub mod Tuples
 pub mod Naming
 pub mod Nodes
 pub mod Loops

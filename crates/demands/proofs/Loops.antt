@@ -7,11 +7,11 @@ use mathlib.Core.Bool.{Bool, true, false, _&&_}
 use mathlib.Core.List.{List, [], _∷_, _++_, map, map-map, cons≢nil}
 use mathlib.Core.Option.{Option, none, some}
 use lib.Dec.{eqb}
-use lib.ListN.{getElem?}
+use lib.ListN.{length, getElem?}
 use borrow.Author.Tests.{ne-eqb}
 use Rattle.lustre.specs.Name.{Name, _among_, lookup, set-of}
-use Rattle.lustre.specs.Types.{Ty, Named, is-tuple}
-use Rattle.lustre.specs.Expr.{Expr, contains-temporal}
+use Rattle.lustre.specs.Types.{Ty, Named, members}
+use Rattle.lustre.specs.Expr.{Expr, Form, form, contains-temporal}
 use Rattle.lustre.specs.Project.{Port, Decl, Constant, Node, NodeKind, Function, Operator, Imported, Heading, Equation, Project, Skeleton, decl-name, is-function, port-names, all-types, all-constants, all-nodes, skeleton}
 use Rattle.lustre.specs.Line.{Note, Remark, Line, plain, bare, about, at-package, at-enum, at-constant, at-node}
 use Rattle.lustre.specs.Resolve.{Scope, context, within-node, try-resolve, compatible}
@@ -20,7 +20,7 @@ use Rattle.lustre.specs.Placement.{nested}
 use Rattle.lustre.specs.Infer.{infer}
 use Rattle.lustre.specs.Deps.{defined}
 use Rattle.lustre.specs.Walk.{search, rust-search, path-of, looks-of}
-use Rattle.lustre.specs.Node.{repeated, absent, path-notes, loop-notes, assigns, wanted, bound-one, bound-many, bound, equation-notes, of-equation, of-node, equations-remarks, cycle-notes, looks, opening-notes, closing-notes, body-remarks, imported-remarks, remarks-as, node-remarks}
+use Rattle.lustre.specs.Node.{repeated, absent, path-notes, loop-notes, assigns, wanted, bound-one, bound-plain, bound-each, bound-tuple, bound-as, bound, called-outputs, equation-notes, of-equation, of-node, equations-remarks, cycle-notes, looks, opening-notes, closing-notes, body-remarks, imported-remarks, remarks-as, node-remarks}
 use Rattle.lustre.specs.Report.{line, tagged, variants-in, repeated-variants, type-lines, alias-numbers, alias-line, alias-lines, node-name-lines, value-notes, constant-notes, constant-lines, opening, of-place, node-lines, report}
 use Rattle.demands.specs.Reading.{Each}
 use Rattle.demands.specs.Nodes.{keep, is-node, about-node}
@@ -130,17 +130,31 @@ assigns-others known inputs seen (a ∷ as′) =
     also one-if (a among seen) (about 21 a) refl
     also assigns-others known inputs (a ∷ seen) as′
 
-one-bound : (Γ : Scope) (a : Name) (t : Ty) (want : Option Ty) → Lacks is-60 (bound-one Γ a t want)
+one-bound : (Γ : Scope) (code : ℕ) → eqb code 60 ≡ false → (a : Name) (t : Ty) (want : Option Ty) → Lacks is-60 (bound-one Γ code a t want)
 unfolding bound-one
-one-bound Γ a t none = lacks-nil
-one-bound Γ a t (some want) = lacks-if (compatible (Γ .alias) want t) lacks-nil (one-unless (is-tuple t) (about 40 a) refl)
+one-bound Γ code h a t none = lacks-nil
+one-bound Γ code h a t (some want) = one-unless (compatible (Γ .alias) want t) (about code a) h
 
-bound-others : (Γ : Scope) (env : List Port) (as′ : List Name) (o : Option Ty) → Lacks is-60 (bound Γ env as′ o)
-unfolding bound bound-many
-bound-others Γ env as′ none = lacks-nil
-bound-others Γ env [] (some t) = one-unless (is-tuple t) (bare 41) refl
-bound-others Γ env (a ∷ []) (some t) = one-bound Γ a t (lookup a env)
-bound-others Γ env (a ∷ b ∷ bs) (some t) = one-unless (is-tuple t) (bare 41) refl
+plain-bound : (Γ : Scope) (env : List Port) (as′ : List Name) (t : Ty) → Lacks is-60 (bound-plain Γ env as′ t)
+unfolding bound-plain
+plain-bound Γ env [] t = lacks-one refl
+plain-bound Γ env (a ∷ []) t = one-bound Γ 40 refl a t (lookup a env)
+plain-bound Γ env (a ∷ b ∷ bs) t = lacks-one refl
+
+each-bound : (Γ : Scope) (env : List Port) (as′ : List Name) (os : List Port) → Lacks is-60 (bound-each Γ env as′ os)
+unfolding bound-each
+each-bound Γ env [] os = lacks-nil
+each-bound Γ env (a ∷ as′) [] = lacks-nil
+each-bound Γ env (a ∷ as′) (o ∷ os) = one-bound Γ 43 refl a (o .1) (lookup a env) also each-bound Γ env as′ os
+
+bound-others : (Γ : Scope) (env : List Port) (as′ : List Name) (f : Form) (o : Option Ty) → Lacks is-60 (bound Γ env as′ f o)
+unfolding bound bound-as bound-tuple
+bound-others Γ env as′ f none = lacks-nil
+bound-others Γ env as′ f (some t) = go (members t)
+  where
+    go : (n : Option ℕ) → Lacks is-60 (bound-as Γ env as′ f t n)
+    go none = plain-bound Γ env as′ t
+    go (some n) = lacks-if (eqb n (length as′)) (each-bound Γ env as′ (called-outputs Γ f)) (lacks-one refl)
 
 equation-others : (Γ : Scope) (n : Node) (env : List Port) (seen : List Name) (q : Equation) → Lacks is-60 (equation-notes Γ n env seen q)
 unfolding equation-notes
@@ -152,7 +166,7 @@ equation-others Γ n env seen q =
     also plain-others 70 refl (pres 0 (q .rhs) false)
     also plain-others 146 refl (nested (q .rhs))
     also inferred (within-node Γ env) function (q .rhs) want
-    also bound-others Γ env (q .lhs) (infer (within-node Γ env) function 0 (q .rhs) want .0)
+    also bound-others Γ env (q .lhs) (form (q .rhs)) (infer (within-node Γ env) function 0 (q .rhs) want .0)
 
 equations-others : (Γ : Scope) (n : Node) (env : List Port) (seen : List Name) (i : ℕ) (qs : List Equation) → Lacks remark-60 (equations-remarks Γ n env seen i qs)
 unfolding equations-remarks of-equation

@@ -8,8 +8,8 @@ use mathlib.Core.Option.{Option, none, some}
 use lib.Dec.{leb}
 use borrow.Author.Tests.{leb-true}
 use Rattle.lustre.specs.Name.{Name, if_then_else_, _among_}
-use Rattle.lustre.specs.Types.{Ty, basic, Array, Named}
-use Rattle.lustre.specs.Expr.{Expr, Exprs, Inits, UnaryOp, Not, Neg, IterKind, Map, Fold, OpClass, Logic, Equality, Order, Arithmetic, Bitwise, Form, integer, temporal, iterator, other, form}
+use Rattle.lustre.specs.Types.{Ty, basic, Array, Named, Tuple}
+use Rattle.lustre.specs.Expr.{Expr, Exprs, Inits, UnaryOp, Not, Neg, IterKind, Map, Fold, OpClass, Logic, Equality, Order, Arithmetic, Bitwise, Form, integer, temporal, iterator, calling, other, form}
 use Rattle.lustre.specs.Expr.{const, var, unary, binary, ite, pre, arrow, call, field, index, tuple, array, struct, cast, when, merge, iterate, iterate-from, []ᵉ, _∷ᵉ_, []ⁱ, init}
 use Rattle.lustre.specs.Project.{Port}
 use Rattle.lustre.specs.Line.{Note, Out, plain, named, return, fail, add, require, try, _>>=_, _>>_}
@@ -124,6 +124,7 @@ module _ (K : Name → Type 0) where
   array-type-says n (basic b) h = search saying
   array-type-says n (Array k t) h = search saying
   array-type-says n (Named x) h = search saying
+  array-type-says n (Tuple k) h = search saying
 
   -- the fields that a struct value lacks are a record's
   missing-fine : (at : ℕ) (fs : List Port) (given : List Name) → Known-ports K fs → All-fine (missing at fs given)
@@ -188,6 +189,7 @@ module _ (K : Name → Type 0) where
     unary-says at Neg (integer v) arg h = λ hint. literal-says at _
     unary-says at Neg temporal arg h = unary-plain-says at Neg arg h
     unary-says at Neg iterator arg h = unary-plain-says at Neg arg h
+    unary-says at Neg (calling g) arg h = unary-plain-says at Neg arg h
     unary-says at Neg other arg h = unary-plain-says at Neg arg h
 
     binary-says : (at : ℕ) (c : OpClass) (left right : Typing) → Saying left → Saying right → Saying (binary-rule Γ at c left right)
@@ -213,6 +215,7 @@ module _ (K : Name → Type 0) where
     field-of-says at x k (basic b) = search (saying, field-code)
     field-of-says at x k (Array n t) = search saying
     field-of-says at x k (Named r) = search saying
+    field-of-says at x k (Tuple n) = search saying
 
     field-says : (at : ℕ) (x : Name) (base : Typing) → K x → Saying base → Saying (field-rule Γ at x base)
     unfolding field-rule
@@ -302,6 +305,7 @@ module _ (K : Name → Type 0) where
     unfolding try-resolve Known-type
     known-try zero seen t k = tt
     known-try (suc left) seen (basic b) k = tt
+    known-try (suc left) seen (Tuple n) k = tt
     known-try (suc left) seen (Array n t) k = known-array n (try-resolve (Γ .alias) left seen t) (known-try left seen t k)
     known-try (suc left) seen (Named x) k = known-alias x _ (Γ .alias x) k (λ t e. known-unless (x among seen) _ (known-try left (x ∷ seen) t (in-scope .alias x t e)))
 
@@ -310,6 +314,7 @@ module _ (K : Name → Type 0) where
     known-resolved-name n (basic b) k h = k
     known-resolved-name n (Array m t) k h = k
     known-resolved-name n (Named r) k h = h
+    known-resolved-name n (Tuple m) k h = k
 
     -- the name of E0125: what the written name resolves to, or the written name
     known-struct-name : (n : Name) → K n → K (struct-name Γ n)
@@ -365,6 +370,7 @@ unfolding Known-type
 any-type (basic b) = tt
 any-type (Array n t) = any-type t
 any-type (Named x) = tt
+any-type (Tuple n) = tt
 
 any-ports : (ps : List Port) → Known-ports Any ps
 any-ports [] = tt

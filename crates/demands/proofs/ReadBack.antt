@@ -11,7 +11,7 @@ use native.Mathlib.Omega.{arith}
 use borrow.Author.Tests.{eqb-true}
 use Rattle.lustre.specs.Name.{Name, mem}
 use Rattle.lustre.specs.Records.{Rec}
-use Rattle.lustre.specs.Types.{Ty, basic, Array, Named}
+use Rattle.lustre.specs.Types.{Ty, basic, Array, Named, Tuple}
 use Rattle.lustre.specs.Expr.{Expr, Exprs, Inits, Literal, UnaryOp, BinOp, IterKind}
 use Rattle.lustre.specs.Expr.{const, var, unary, binary, ite, pre, arrow, call, field, index, tuple, array, struct, cast, when, merge, iterate, iterate-from, []ᵉ, _∷ᵉ_, []ⁱ, init}
 use Rattle.lustre.specs.Expr.{bool, int, float, char, Not, Neg, And, Or, Xor, Implies, Eq, Neq, Lt, Le, Gt, Ge, Add, Sub, Mul, Div, Mod, BitAnd, BitOr, BitXor, Shl, Shr, Map, Fold}
@@ -121,6 +121,7 @@ module _ (A : Type 0) where
   back-type (basic b) w cs f k = step (one a-type) cs f (plain-rec b) k _ (has-basic b w)
   back-type (Array n t) w cs f k = back-type t w cs _ k
   back-type (Named x) w cs f k = refl
+  back-type (Tuple n) w cs f k = absurd w
 
   -- an expression, the expressions of a list that its count announces, and the field values of a struct
   mutual

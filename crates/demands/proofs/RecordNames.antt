@@ -11,7 +11,7 @@ use borrow.Author.Tests.{ltb-true}
 use Rattle.lustre.specs.Name.{Name, _is_, mem, _among_}
 use Rattle.lustre.specs.Names.{name-at}
 use Rattle.lustre.specs.Records.{Rec, WordClass, no-word, a-name, a-count, a-length, a-truth, any-word, a-byte, word-class, word-classes, class-in, in-class, bad-record, spell, spell-as}
-use Rattle.lustre.specs.Types.{basic, Array, Named}
+use Rattle.lustre.specs.Types.{basic, Array, Named, Tuple}
 use Rattle.lustre.specs.Expr.{IterKind, Map, Fold, const, var, unary, binary, ite, pre, arrow, call, field, index, tuple, array, struct, cast, when, merge, iterate, iterate-from, []ᵉ, _∷ᵉ_, []ⁱ, init}
 use Rattle.lustre.specs.Project.{Port, Alias, Record, Enum, NodeKind, Function, Operator, Imported, Project}
 use Rattle.lustre.specs.Grammar.{when-kind, iterate-kind, iterate-from-kind, node-kind, flat-type, flat, flats, flatsⁱ, each-of, list-of, flat-name, flat-port, flat-decl, flat-constant, flat-equation, flat-node, flat-package, flat-project}
@@ -64,6 +64,7 @@ module _ (K : Name → Type 0) where
   known-type (basic b) k h = (tt, h .1)
   known-type (Array n t) k h = known-type t k (h .1)
   known-type (Named x) k h = h
+  known-type (Tuple n) k h = (tt, h .1)
 
   mutual
     unfolding flat flats flatsⁱ Known-expr Known-exprs Known-inits word-class class-in word-classes mem

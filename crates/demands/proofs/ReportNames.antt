@@ -6,15 +6,15 @@ use mathlib.Core.Bool.{Bool}
 use mathlib.Core.List.{List, [], _∷_, _++_, map}
 use mathlib.Core.Option.{Option, none, some}
 use Rattle.lustre.specs.Name.{Name, lookup, set-of}
-use Rattle.lustre.specs.Types.{Ty}
-use Rattle.lustre.specs.Expr.{Expr, Exprs, Inits, const, var, unary, binary, ite, pre, arrow, call, field, index, tuple, array, struct, cast, when, merge, iterate, iterate-from, []ᵉ, _∷ᵉ_, []ⁱ, init}
+use Rattle.lustre.specs.Types.{Ty, members}
+use Rattle.lustre.specs.Expr.{Expr, Form, Exprs, Inits, const, var, unary, binary, ite, pre, arrow, call, field, index, tuple, array, struct, cast, when, merge, iterate, iterate-from, []ᵉ, _∷ᵉ_, []ⁱ, init}
 use Rattle.lustre.specs.Project.{Port, Decl, Alias, Record, Enum, Constant, NodeKind, Function, Operator, Imported, Equation, Node, Heading, Project, decl-name, heading, skeleton, all-types, all-constants, all-nodes, is-function, port-names}
 use Rattle.lustre.specs.Line.{Note, Remark, Line, plain}
 use Rattle.lustre.specs.Resolve.{Scope, aliases-of, records-of, context, within-node}
 use Rattle.lustre.specs.Infer.{infer}
 use Rattle.lustre.specs.Deps.{reads, reads-each, reads-eachⁱ}
 use Rattle.lustre.specs.Walk.{path-of, search as seek}
-use Rattle.lustre.specs.Node.{repeated, absent, path-notes, loop-notes, assigns, wanted, bound-one, bound-many, bound, equation-notes, of-equation, of-node, equations-remarks, cycle-notes, opening-notes, closing-notes, body-remarks, imported-remarks, remarks-as, node-remarks}
+use Rattle.lustre.specs.Node.{repeated, absent, path-notes, loop-notes, assigns, wanted, bound-one, bound-plain, bound-each, bound-tuple, bound-as, bound, equation-notes, of-equation, of-node, equations-remarks, cycle-notes, opening-notes, closing-notes, body-remarks, imported-remarks, remarks-as, node-remarks}
 use Rattle.lustre.specs.Report.{line, tagged, variants-in, repeated-variants, type-lines, alias-numbers, alias-line, alias-lines, node-name-lines, value-notes, constant-notes, constant-lines, opening, of-place, node-lines, nodes-lines, report}
 use Rattle.demands.specs.Reading.{Each}
 use Rattle.demands.specs.Loops.{Along, Closed}
@@ -162,21 +162,32 @@ module _ (K : Name → Type 0) where
   known-plain : (code : ℕ) (ats : List ℕ) → Each Known-note (map (λ at. plain at code) ats)
   known-plain code ats = each-map Known-note _ ats (each-all (λ _. Unit {0}) (λ at. tt) ats)
 
-  known-bound-one : (Γ : Scope) (a : Name) (t : Ty) (o : Option Ty) → K a → Each Known-note (bound-one Γ a t o)
+  known-bound-one : (Γ : Scope) (code : ℕ) (a : Name) (t : Ty) (o : Option Ty) → K a → Each Known-note (bound-one Γ code a t o)
   unfolding bound-one
-  known-bound-one Γ a t none k = tt
-  known-bound-one Γ a t (some want) k = search listed
+  known-bound-one Γ code a t none k = tt
+  known-bound-one Γ code a t (some want) k = search listed
 
-  known-bound-many : (t : Ty) → Each Known-note (bound-many t)
-  unfolding bound-many
-  known-bound-many t = search listed
+  known-bound-plain : (Γ : Scope) (env : List Port) (as′ : List Name) (t : Ty) → Each K as′ → Each Known-note (bound-plain Γ env as′ t)
+  unfolding bound-plain
+  known-bound-plain Γ env [] t h = search listed
+  known-bound-plain Γ env (a ∷ []) t h = known-bound-one Γ 40 a t (lookup a env) (h .0)
+  known-bound-plain Γ env (a ∷ b ∷ bs) t h = search listed
 
-  known-bound : (Γ : Scope) (env : List Port) (as′ : List Name) (o : Option Ty) → Each K as′ → Each Known-note (bound Γ env as′ o)
+  known-bound-each : (Γ : Scope) (env : List Port) (as′ : List Name) (os : List Port) → Each K as′ → Each Known-note (bound-each Γ env as′ os)
+  unfolding bound-each
+  known-bound-each Γ env [] os h = tt
+  known-bound-each Γ env (a ∷ as′) [] h = tt
+  known-bound-each Γ env (a ∷ as′) (o ∷ os) h = each-append Known-note (bound-one Γ 43 a (o .1) (lookup a env)) _ (known-bound-one Γ 43 a (o .1) (lookup a env) (h .0)) (known-bound-each Γ env as′ os (h .1))
+
+  known-bound-as : (Γ : Scope) (env : List Port) (as′ : List Name) (f : Form) (t : Ty) (n : Option ℕ) → Each K as′ → Each Known-note (bound-as Γ env as′ f t n)
+  unfolding bound-as bound-tuple
+  known-bound-as Γ env as′ f t none h = known-bound-plain Γ env as′ t h
+  known-bound-as Γ env as′ f t (some n) h = search (listed, known-bound-each)
+
+  known-bound : (Γ : Scope) (env : List Port) (as′ : List Name) (f : Form) (o : Option Ty) → Each K as′ → Each Known-note (bound Γ env as′ f o)
   unfolding bound
-  known-bound Γ env as′ none h = tt
-  known-bound Γ env [] (some t) h = known-bound-many t
-  known-bound Γ env (a ∷ []) (some t) h = known-bound-one Γ a t (lookup a env) (h .0)
-  known-bound Γ env (a ∷ b ∷ bs) (some t) h = known-bound-many t
+  known-bound Γ env as′ f none h = tt
+  known-bound Γ env as′ f (some t) h = known-bound-as Γ env as′ f t (members t) h
 
   module _ (Γ : Scope) (in-scope : Known-scope K Γ) where
     -- the notes of inference name known names

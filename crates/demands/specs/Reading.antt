@@ -9,7 +9,7 @@ use lib.Dec.{eqb}
 use lib.ListN.{getElem?}
 use Rattle.lustre.specs.Name.{Name, mem}
 use Rattle.lustre.specs.Records.{Rec, word-class, spell-as, spell}
-use Rattle.lustre.specs.Types.{Ty, basic, Array, Named}
+use Rattle.lustre.specs.Types.{Ty, basic, Array, Named, Tuple}
 use Rattle.lustre.specs.Expr.{Expr, Exprs, Inits, const, var, unary, binary, ite, pre, arrow, call, field, index, tuple, array, struct, cast, when, merge, iterate, iterate-from, []ᵉ, _∷ᵉ_, []ⁱ, init}
 use Rattle.lustre.specs.Project.{Port, Decl, Alias, Record, Enum, Constant, Equation, Node, Package, skeleton, all-nodes}
 use Rattle.lustre.specs.Grammar.{Sort, Class, one, list, Single, Tree, Got, got, read, flat-part, flat-node, basic-kinds}
@@ -26,6 +26,7 @@ unfoldable pub Writable-type : Ty → Type 0
 Writable-type (basic b) = mem eqb b basic-kinds ≡ true
 Writable-type (Array n t) = Writable-type t
 Writable-type (Named x) = Unit {0}
+Writable-type (Tuple n) = ⊥
 
 unfoldable mutual
   pub Writable-expr : Expr → Type 0

@@ -1,4 +1,4 @@
--- The names assigned and the type of a right-hand side: the declared type of the one name, and E0040 and E0041.
+-- The names assigned and the type of a right-hand side: the declared type of the one name, and E0040 and E0041 of a type that is no tuple.
 -- Assumes nothing.
 use Prim.Native.Nat.{ℕ, _+_, _≤_}
 use native.Mathlib.Omega.{arith}
@@ -7,12 +7,13 @@ use mathlib.Core.Bool.{Bool, true, false}
 use mathlib.Core.List.{List, [], _∷_, _++_}
 use mathlib.Core.Option.{Option, none, some}
 use lib.ListN.{length, getD}
-use Rattle.lustre.specs.Name.{Name, if_then_else_, lookup}
-use Rattle.lustre.specs.Types.{Ty, is-tuple}
+use Rattle.lustre.specs.Name.{Name, if_then_else_}
+use Rattle.lustre.specs.Types.{Ty, members}
+use Rattle.lustre.specs.Expr.{Form}
 use Rattle.lustre.specs.Project.{Port, skeleton}
 use Rattle.lustre.specs.Line.{Note, Out, bare, about}
 use Rattle.lustre.specs.Resolve.{Scope, compatible, context}
-use Rattle.lustre.specs.Node.{wanted, bound-one, bound-many, bound}
+use Rattle.lustre.specs.Node.{wanted, bound-one, bound-plain, bound-tuple, bound-as, bound}
 use Rattle.standing.specs.Standing.{Rec-at, Name-at, Mention-at, one-record}
 use Rattle.standing.proofs.Sizes.{first, no-items}
 use Rattle.lines.specs.Lines.{Noted, Said}
@@ -24,7 +25,7 @@ use Rattle.types.specs.declared.Hint.{Hint}
 use Rattle.rules.specs.World.{Typed, Found}
 use Rattle.rules.specs.Post.{HintIs}
 use Rattle.infer.specs.Post.{GivenWhole}
-use Rattle.scope.specs.Tables.{records}
+use Rattle.scope.specs.Tables.{records, Scoped}
 use Rattle.scope.proofs.World.{types-targets, world}
 use Rattle.equations.specs.Equations.{Left-given, Sides-given}
 
@@ -65,10 +66,10 @@ module _ {ks ws sc : List ℕ} {list : ℕ} (g : Left-given ks ws sc list) where
       go (a ∷ []) e = absurd (h e)
       go (a ∷ b ∷ xs) e = refl
 
-  -- the aliases of the project are those of the scope
-  pub alias-table : Table (g .scoped .model .text) (context (skeleton (g .scoped .model .P)) .alias) ks ws sc
-  unfolding context
-  alias-table = types-targets (g .scoped .declared) .1
+-- the aliases of the project are those of the scope
+pub alias-table : {ks ws sc : List ℕ} (w : Scoped ks ws sc) → Table (w .model .text) (context (skeleton (w .model .P)) .alias) ks ws sc
+unfolding context
+alias-table w = types-targets (w .declared) .1
 
 -- a weaker bound of a hint
 pub hint-low : {ρ : Naming} {s u : Option Ty} {high : ℕ} {r : Hint} → s ≡ u → high ≤ 67 → HintIs ρ s high r → HintIs ρ u 67 r
@@ -76,51 +77,53 @@ hint-low e h d = record { is = d .is ∙ e; low = omega (arith, d .low); known =
 
 -- ---- E0040 and E0041
 
-module _ (Γ : Scope) (env : List Port) (t : Ty) where
-  -- no notes, however the test goes
-  same-both : (b : Bool) → _≡_ {A = List Note} (if b then [] else []) []
-  same-both true = refl
-  same-both false = refl
+-- a test for a tuple says whether there are members
+pub members-yes : {o : Option ℕ} (b : Bool) (n : ℕ) → o ≡ (if b then some n else none) → b ≡ true → o ≡ some n
+members-yes b n h e = h ∙ rw e
 
-  -- a tuple gets no line
-  pub bound-tuple : (xs : List Name) → is-tuple t ≡ true → bound Γ env xs (some t) ≡ []
-  unfolding bound bound-many bound-one
-  bound-tuple [] h = rw h
-  bound-tuple (a ∷ []) h = go (lookup a env)
-    where
-      -- the same of any declared type
-      go : (w : Option Ty) → bound-one Γ a t w ≡ []
-      go none = refl
-      go (some u) = rw h (same-both (compatible (Γ .alias) u t))
-  bound-tuple (a ∷ b ∷ xs) h = rw h
+pub members-no : {o : Option ℕ} (b : Bool) (n : ℕ) → o ≡ (if b then some n else none) → b ≡ false → o ≡ none
+members-no b n h e = h ∙ rw e
 
-  -- none or several names
-  pub bound-not-one : (xs : List Name) → (length xs ≡ 1 → ⊥) → is-tuple t ≡ false → bound Γ env xs (some t) ≡ bare 41 ∷ []
-  unfolding bound bound-many
-  bound-not-one [] n h = rw h
-  bound-not-one (a ∷ []) n h = absurd (n refl)
-  bound-not-one (a ∷ b ∷ xs) n h = rw h
+-- one name and a value of type t
+module _ (Γ : Scope) (code : ℕ) (a : Name) (t : Ty) {w : Option Ty} where
+  -- no declared type
+  pub one-free : w ≡ none → bound-one Γ code a t w ≡ []
+  unfolding bound-one
+  one-free e = rw e
 
-  module _ {xs : List Name} {a : Name} (e : xs ≡ a ∷ []) where
-    -- one name with no declared type
-    pub bound-free : wanted env xs ≡ none → bound Γ env xs (some t) ≡ []
-    unfolding bound bound-one wanted
-    bound-free w = let z : lookup a env ≡ none = rw e at w in rw (e, z)
+  -- a declared type that fits
+  pub one-fits : {u : Ty} → w ≡ some u → compatible (Γ .alias) u t ≡ true → bound-one Γ code a t w ≡ []
+  unfolding bound-one
+  one-fits e h = rw (e, h)
 
-    -- one name of a declared type that fits
-    pub bound-fits : {u : Ty} → wanted env xs ≡ some u → compatible (Γ .alias) u t ≡ true → bound Γ env xs (some t) ≡ []
-    unfolding bound bound-one wanted
-    bound-fits {u} w h = let z : lookup a env ≡ some u = rw e at w in rw (e, z, h)
+  -- a declared type that does not fit
+  pub one-unfit : {u : Ty} → w ≡ some u → compatible (Γ .alias) u t ≡ false → bound-one Γ code a t w ≡ about code a ∷ []
+  unfolding bound-one
+  one-unfit e h = rw (e, h)
 
-    -- one name of a declared type that does not fit
-    pub bound-unfit : {u : Ty} → wanted env xs ≡ some u → compatible (Γ .alias) u t ≡ false → is-tuple t ≡ false → bound Γ env xs (some t) ≡ about 40 a ∷ []
-    unfolding bound bound-one wanted
-    bound-unfit {u} w h k = let z : lookup a env ≡ some u = rw e at w in rw (e, z, h, k)
+module _ (Γ : Scope) (env : List Port) (f : Form) (t : Ty) where
+  -- a tuple of n members
+  pub bound-members : {n : ℕ} (xs : List Name) → members t ≡ some n → bound Γ env xs f (some t) ≡ bound-tuple Γ env xs f n
+  unfolding bound bound-as
+  bound-members xs h = rw h
+
+  module _ (h : members t ≡ none) where
+    -- no tuple, for none or several names
+    pub bound-not-one : (xs : List Name) → (length xs ≡ 1 → ⊥) → bound Γ env xs f (some t) ≡ bare 41 ∷ []
+    unfolding bound bound-as bound-plain
+    bound-not-one [] n = rw h
+    bound-not-one (a ∷ []) n = absurd (n refl)
+    bound-not-one (a ∷ b ∷ xs) n = rw h
+
+    -- no tuple, for one name
+    pub bound-alone : {xs : List Name} {a : Name} → xs ≡ a ∷ [] → bound Γ env xs f (some t) ≡ bound-one Γ 40 a t (wanted env xs)
+    unfolding bound bound-as bound-plain wanted
+    bound-alone e = rw (e, h)
 
 -- no type
-pub bound-nothing : (Γ : Scope) (env : List Port) (xs : List Name) → bound Γ env xs none ≡ []
+pub bound-nothing : (Γ : Scope) (env : List Port) (xs : List Name) (f : Form) → bound Γ env xs f none ≡ []
 unfolding bound
-bound-nothing Γ env xs = refl
+bound-nothing Γ env xs f = refl
 
 -- what inference says, and what is said of its type then
 pub said-then-noted : {A : Type 0} {num : Name → ℕ} {q : Spot} {s : Out A} {v w : Option A} {o o₁ o₂ : List ℕ} {n m k : ℕ} (f : Option A → List Note)

@@ -5,8 +5,9 @@ use mathlib.Core.Path.{_≡_}
 use mathlib.Core.Bool.{Bool, false, _&&_, _||_}
 use mathlib.Core.List.{List, [], _∷_, _++_}
 use Rattle.lustre.specs.Name.{Name, if_then_else_, _among_}
-use Rattle.lustre.specs.Expr.{Expr, contains-temporal}
-use Rattle.lustre.specs.Project.{Equation, Node, skeleton, port-names, is-function}
+use Rattle.lustre.specs.Types.{Ty}
+use Rattle.lustre.specs.Expr.{Expr, contains-temporal, form}
+use Rattle.lustre.specs.Project.{Port, Equation, Node, skeleton, port-names, is-function}
 use Rattle.lustre.specs.Line.{Note, bare}
 use Rattle.lustre.specs.Resolve.{context}
 use Rattle.lustre.specs.Init.{pres}
@@ -19,6 +20,7 @@ use Rattle.standing.specs.Standing.{source, Names-at, Expr-at, Equation-at, equ
 use Rattle.lines.specs.Lines.{Noted}
 use Rattle.lines.specs.declared.Spot.{Spot}
 use Rattle.types.specs.Value.{Naming}
+use Rattle.rules.specs.World.{Typed, Listed}
 use Rattle.body.specs.Body.{notes}
 use Rattle.body.specs.declared.Passed.{Passed}
 use Rattle.loops.specs.Rows.{has}
@@ -35,6 +37,18 @@ pub record Left-given (ks ws sc : List ℕ) (list : ℕ) : Type 0 where
   pub xs : List Name
   pub listed : Names-at (records (scoped .model)) xs list
 
+-- the type t stands at a place of such a model
+pub record Output-given (ks ws sc : List ℕ) (at : ℕ) : Type 0 where
+  pub scoped : Scoped ks ws sc
+  pub t : Ty
+  pub typed : Typed (records (scoped .model)) t at
+
+-- the names assigned, and the outputs ps in the list at a place
+pub record Outputs-given (ks ws sc : List ℕ) (list outputs : ℕ) : Type 0 where
+  pub left : Left-given ks ws sc list
+  pub ps : List Port
+  pub listed : Listed (records (left .scoped .model)) ps outputs
+
 -- the names assigned, and the right-hand side e at a place
 pub record Sides-given (ks ws sc : List ℕ) (list start : ℕ) : Type 0 where
   pub left : Left-given ks ws sc list
@@ -42,12 +56,12 @@ pub record Sides-given (ks ws sc : List ℕ) (list start : ℕ) : Type 0 where
   pub stands : Expr-at (records (left .scoped .model)) e start
   pub shallow : Shallow-expr e
 
--- the notes of inference, and E0040 or E0041
+-- the notes of inference, and E0040 to E0043
 abbrev pub type-notes : {ks ws sc : List ℕ} {list start : ℕ} → Sides-given ks ws sc list start → Bool → List Note
 type-notes g function =
     let w = g .left .scoped in
     let typed = infer (scope-in (w .model) (w .env)) function 0 (g .e) (wanted (w .env) (g .left .xs)) in
-    typed .1 ++ bound (context (skeleton (w .model .P))) (w .env) (g .left .xs) (typed .0)
+    typed .1 ++ bound (context (skeleton (w .model .P))) (w .env) (g .left .xs) (form (g .e)) (typed .0)
 
 -- an equation at a place
 pub record Equation-given (ks ws sc : List ℕ) (at : ℕ) : Type 0 where

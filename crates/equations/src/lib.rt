@@ -13,6 +13,9 @@ use lustre::NONE;
 use lustre::codes;
 use rules::hints::hint_of;
 use rules::hints::no_hint;
+use rules::ports::ports_end;
+use rules::ports::type_end;
+use scope::NODES;
 use scope::PORTS;
 use scope::has_name;
 use scope::repeated_name;
@@ -22,20 +25,20 @@ use types::Typ;
 use types::aliases::compatible;
 use types::is_tuple;
 use types::records::read_type;
-ghost use Prim.Native.Nat.{ℕ, _+_, _<_, _≤_};
+ghost use Prim.Native.Nat.{ℕ, _+_, _<_, _≤_, min};
 ghost use mathlib.Core.Path.{_≡_};
 ghost use mathlib.Core.Bool.{_&&_, _||_};
 ghost use mathlib.Core.Option.{some};
 ghost use mathlib.Core.List.{List, [], _∷_, _++_};
 ghost use lib.Dec.{eqb};
 ghost use lib.ListN.{length, getD};
-ghost use Rattle.lustre.specs.Name.{Name, if_then_else_, _among_};
+ghost use Rattle.lustre.specs.Name.{Name, if_then_else_, _among_, lookup};
 ghost use Rattle.lustre.specs.Types.{Ty};
-ghost use Rattle.lustre.specs.Expr.{contains-temporal, size};
+ghost use Rattle.lustre.specs.Expr.{contains-temporal, form, size};
 ghost use Rattle.lustre.specs.Project.{Port, Heading, port-names, skeleton};
 ghost use Rattle.lustre.specs.Line.{about, bare};
 ghost use Rattle.lustre.specs.Resolve.{context};
-ghost use Rattle.lustre.specs.Node.{assigns, wanted, bound};
+ghost use Rattle.lustre.specs.Node.{assigns, wanted, bound-one, bound-each, bound-tuple, bound};
 ghost use Rattle.standing.specs.Standing.{source};
 ghost use Rattle.standing.specs.Owed.{There};
 ghost use Rattle.lines.specs.Lines.{Noted};
@@ -47,7 +50,10 @@ ghost use Rattle.scope.specs.Tables.{Tables};
 ghost use Rattle.scope.specs.Sets.{Holds};
 ghost use Rattle.scope.specs.Names.{Names-here, Numbers};
 ghost use Rattle.body.specs.Body.{Whole};
-ghost use Rattle.equations.specs.Equations.{side-notes, Left-given, Sides-given, type-notes, Equation-given, Equation-checked, Equation-here, Edges-added};
+ghost use Rattle.equations.specs.Equations.{side-notes, Left-given, Output-given, Outputs-given, Sides-given, type-notes, Equation-given, Equation-checked, Equation-here, Edges-added};
+
+// The kind of a call's record.
+const CALL: u8 = 70;
 
 // The line of an assigned name that is no port or local, or is an input: E0020 or E0022.
 fn check_known(scope: &[u64], ins: &[u64], name: u64, q: Spot, out: &mut [u64], n: u64) -> u64
@@ -137,24 +143,120 @@ fn declared_type(kinds: &[u8], words: &[u64], scope: &[u64], list: usize) -> Hin
     hint_of(r.typ)
 }
 
-// The line of a right-hand side whose type t does not fit the names assigned, lib.rs 440 to 472: E0040 or E0041. `hint` is the declared type
-// of the one name.
+// The line of a name whose declared type is not that of the output whose type stands at a place, request 2.8: E0043. An unknown name gets none.
+fn check_output(
+    kinds: &[u8],
+    words: &[u64],
+    scope: &[u64],
+    name: u64,
+    at: usize,
+    q: Spot,
+    out: &mut [u64],
+    n: u64,
+) -> u64
+    requires { ⌜ Output-given (now kinds) (now words) (now scope) at × (name < 512) ⌝ }
+    ensures { λ r. ⌜ ((g : Output-given (now (kinds .entry)) (now (words .entry)) (now (scope .entry)) at) → Noted (g .scoped .model .number) q (bound-one (context (skeleton (g .scoped .model .P))) 43 (g .scoped .model .text name) (g .t) (lookup (g .scoped .model .text name) (g .scoped .env))) (now (out .entry)) n r (now (out .exit))) ⌝ }
+{
+    let i = name as usize;
+    let e = scope[i + PORTS];
+    if e == 0 {
+        return n;
+    }
+    let want = read_type(kinds, words, e as usize);
+    let got = read_type(kinds, words, at);
+    if compatible(kinds, words, scope, want.typ, got.typ) {
+        return n;
+    }
+    put_line(out, q, n, codes::E0043, NONE, name)
+}
+
+// The lower of two numbers.
+fn lower(a: u64, b: u64) -> u64
+    ensures { λ r. ⌜ r ≡ min a b ⌝ }
+{
+    if a < b {
+        return a;
+    }
+    b
+}
+
+// The lines of the names in one list, each beside the output at its position in another, to the end of the shorter.
+fn check_outputs(
+    kinds: &[u8],
+    words: &[u64],
+    scope: &[u64],
+    list: usize,
+    outputs: usize,
+    q: Spot,
+    out: &mut [u64],
+    n: u64,
+) -> u64
+    requires { ⌜ Outputs-given (now kinds) (now words) (now scope) list outputs ⌝ }
+    ensures { λ r. ⌜ ((g : Outputs-given (now (kinds .entry)) (now (words .entry)) (now (scope .entry)) list outputs) → Noted (g .left .scoped .model .number) q (bound-each (context (skeleton (g .left .scoped .model .P))) (g .left .scoped .env) (g .left .xs) (g .ps)) (now (out .entry)) n r (now (out .exit))) ⌝ }
+{
+    let mut left = lower(words[list], words[outputs]);
+    let mut next = list + 1;
+    let mut port = outputs + 1;
+    let mut m = n;
+    while left > 0 {
+        m = check_output(kinds, words, scope, words[next], port + 1, q, out, m);
+        next += 1;
+        port = type_end(kinds, words, port + 1);
+        left -= 1;
+    }
+    m
+}
+
+// The lines of a right-hand side that is a tuple of so many members, request 2.8: E0042 where there is another number of names, else E0043
+// where it is itself a call, whose outputs stand behind its inputs.
+fn check_tuple(
+    kinds: &[u8],
+    words: &[u64],
+    scope: &[u64],
+    list: usize,
+    start: usize,
+    members: u64,
+    q: Spot,
+    out: &mut [u64],
+    n: u64,
+) -> u64
+    requires { ⌜ Sides-given (now kinds) (now words) (now scope) list start ⌝ }
+    ensures { λ r. ⌜ ((g : Sides-given (now (kinds .entry)) (now (words .entry)) (now (scope .entry)) list start) → Noted (g .left .scoped .model .number) q (bound-tuple (context (skeleton (g .left .scoped .model .P))) (g .left .scoped .env) (g .left .xs) (form (g .e)) members) (now (out .entry)) n r (now (out .exit))) ⌝ }
+{
+    if members != words[list] {
+        return put_line(out, q, n, codes::E0042, NONE, NONE);
+    }
+    if kinds[start] != CALL {
+        return n;
+    }
+    let i = words[start] as usize;
+    let e = scope[i + NODES];
+    if e == 0 {
+        return n;
+    }
+    let outputs = ports_end(kinds, words, e as usize);
+    check_outputs(kinds, words, scope, list, outputs, q, out, n)
+}
+
+// The lines of a right-hand side at a place whose type t does not fit the names assigned, lib.rs 440 to 472: E0042 and E0043 of a tuple, else
+// E0040 or E0041. `hint` is the declared type of the one name.
 fn check_bound(
     kinds: &[u8],
     words: &[u64],
     scope: &[u64],
     list: usize,
+    start: usize,
     hint: Hint,
     t: Typ,
     q: Spot,
     out: &mut [u64],
     n: u64,
 ) -> u64
-    requires { ⌜ Left-given (now kinds) (now words) (now scope) list × (hint .typ .levels ≤ 127) ⌝ }
-    ensures { λ r. ⌜ ((g : Left-given (now (kinds .entry)) (now (words .entry)) (now (scope .entry)) list) → asHint (g .scoped .model .text) hint ≡ wanted (g .scoped .env) (g .xs) → Noted (g .scoped .model .number) q (bound (context (skeleton (g .scoped .model .P))) (g .scoped .env) (g .xs) (some (asTy (g .scoped .model .text) t))) (now (out .entry)) n r (now (out .exit))) ⌝ }
+    requires { ⌜ Sides-given (now kinds) (now words) (now scope) list start × (hint .typ .levels ≤ 127) ⌝ }
+    ensures { λ r. ⌜ ((g : Sides-given (now (kinds .entry)) (now (words .entry)) (now (scope .entry)) list start) → asHint (g .left .scoped .model .text) hint ≡ wanted (g .left .scoped .env) (g .left .xs) → Noted (g .left .scoped .model .number) q (bound (context (skeleton (g .left .scoped .model .P))) (g .left .scoped .env) (g .left .xs) (form (g .e)) (some (asTy (g .left .scoped .model .text) t))) (now (out .entry)) n r (now (out .exit))) ⌝ }
 {
     if is_tuple(t) {
-        return n;
+        return check_tuple(kinds, words, scope, list, start, t.name, q, out, n);
     }
     if words[list] != 1 {
         return put_line(out, q, n, codes::E0041, NONE, NONE);
@@ -169,7 +271,7 @@ fn check_bound(
     put_line(out, q, n, codes::E0040, NONE, words[list + 1])
 }
 
-// The lines of a right-hand side's type, for the names in the list at a place: those of inference, then E0040 or E0041.
+// The lines of a right-hand side's type, for the names in the list at a place: those of inference, then E0040 to E0043.
 fn check_type(
     kinds: &[u8],
     words: &[u64],
@@ -188,7 +290,7 @@ fn check_type(
     let rw = &words[start..];
     let r = infer(kinds, words, scope, rk, rw, 0, hint, q, out, n);
     if r.ok {
-        return check_bound(kinds, words, scope, list, hint, r.typ, q, out, r.n);
+        return check_bound(kinds, words, scope, list, start, hint, r.typ, q, out, r.n);
     }
     r.n
 }

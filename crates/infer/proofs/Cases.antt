@@ -13,7 +13,7 @@ use lib.ListN.{length, getD}
 use lib.IntN.{ℤ}
 use borrow.Author.Tests.{eqb-true}
 use Rattle.lustre.specs.Types.{Ty, basic, levels, is-bool, is-integer}
-use Rattle.lustre.specs.Expr.{Literal, bool, int, float, char, UnaryOp, Not, Neg, BinOp, OpClass, op-class, Form, integer, temporal, iterator, other, form, literal-form, size}
+use Rattle.lustre.specs.Expr.{Literal, bool, int, float, char, UnaryOp, Not, Neg, BinOp, OpClass, op-class, Form, integer, temporal, iterator, calling, other, form, literal-form, size}
 use Rattle.lustre.specs.Expr.{Expr, const, var, unary, binary, ite, pre, arrow, call, field, index, tuple, array, struct, cast, when, merge, iterate, iterate-from}
 use Rattle.lustre.specs.Grammar.{literal-kind, unary-kind, when-kind, op-kind}
 use Rattle.lustre.specs.Line.{return}
@@ -88,6 +88,7 @@ plainly Γ at Not f arg x h = refl
 plainly Γ at Neg (integer v) arg x h = absurd (h refl v refl)
 plainly Γ at Neg temporal arg x h = refl
 plainly Γ at Neg iterator arg x h = refl
+plainly Γ at Neg (calling f) arg x h = refl
 plainly Γ at Neg other arg x h = refl
 
 -- ---- hints that a branch picks
@@ -256,12 +257,12 @@ module _ {ks ws sc pk pw : List ℕ} {at : ℕ} {h : Hint} (g : Given ks ws sc p
         let w = var-here src (g .e) at (g .stands) k in
         rw (w .holds) (lower (omega (arith, level)) (rw (w .name .text) at (f (g .W))))
 
-  pub tuple-done : getD pk at 0 ≡ 73 → {q : Spot} {o : List ℕ} {n : ℕ} {t : Typ} {next : ℕ} → Bottom 34 0 t → ((t : There pk pw at) → next ≡ at + size (t .e))
+  pub tuple-done : getD pk at 0 ≡ 73 → {q : Spot} {o : List ℕ} {n : ℕ} {t : Typ} {next : ℕ} → Bottom 34 (getD pw at 0) t → ((t : There pk pw at) → next ≡ at + size (t .e))
       → Whole g q o n (record { ok = true; typ = t; next = next; n = n }) o
   unfolding infer bottom
   tuple-done k {t = t} b f =
       let w = tuple-here src (g .e) at (g .stands) k in
-      returned t (omega (arith, b .flat)) (λ _. omega (arith, b .name)) (f there) (rw (w .is) (ap (λ (x : Ty). return x) (sym (b .is (g .W .text)))))
+      returned t (omega (arith, b .flat)) (λ e. absurd (omega (arith, b .base))) (f there) (rw (w .is, ← w .many) (ap (λ (x : Ty). return x) (sym (b .is (g .W .text)))))
 
   -- ---- unary operators
 

@@ -47,6 +47,7 @@ use rules::unless_agrees;
 use rules::var_rule;
 use standing::skip;
 use types::Hint;
+use types::TUPLE;
 use types::Typ;
 use types::array_of;
 use types::bottom_of;
@@ -158,7 +159,8 @@ fn tuple(
     requires { ⌜ Given (now kinds) (now words) (now scope) (now rk) (now rw) at hint × (length (now rk) ≤ 4096) × (getD (now rk) at 0 ≡ 73) ⌝ }
     ensures { λ r. ⌜ Inferring (now (kinds .entry)) (now (words .entry)) (now (scope .entry)) (now (rk .entry)) (now (rw .entry)) at hint q (now (out .entry)) n r (now (out .exit)) ⌝ }
 {
-    let typ = bottom_of(34, 0);
+    let count = rw[at];
+    let typ = bottom_of(TUPLE, count);
     let next = skip(rk, rw, at);
     Inferred {
         ok: true,

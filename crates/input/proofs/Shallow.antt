@@ -10,7 +10,7 @@ use lib.ListN.{length, replicate}
 use borrow.Author.Tests.{ltb-false}
 use Rattle.lustre.specs.Name.{Name}
 use Rattle.lustre.specs.Records.{Rec}
-use Rattle.lustre.specs.Types.{Ty, basic, Array, Named, levels}
+use Rattle.lustre.specs.Types.{Ty, basic, Array, Named, Tuple, levels}
 use Rattle.lustre.specs.Expr.{Expr, Exprs, Inits, const, var, unary, binary, ite, pre, arrow, call, field, index, tuple, array, struct, cast, when, merge, iterate, iterate-from, []ᵉ, _∷ᵉ_, []ⁱ, init}
 use Rattle.lustre.specs.Project.{Port, Alias, Record, Enum, Equation, Project}
 use Rattle.lustre.specs.Grammar.{Sort, Class, one, list, Single, Shape, parts, each, follow, Entry, entries, entry, count, countⁱ, flat-type, flat, flats, flatsⁱ, each-of, list-of, flat-name, flat-decl, flat-one, flat-project}
@@ -64,6 +64,7 @@ unfolding flat-type levels Writable-type entry entries inner-of inner too-deep
 deep-type (basic b) {l} k w p = let s = step (has-basic b w) p in (omega (arith, ltb-false 68 l (s .level)), s .rest)
 deep-type (Array n t) {l} k w p = let r = deep-type t k w (step refl p .rest) in (omega (arith, r .0), r .1)
 deep-type (Named x) {l} k w p = let s = step refl p in (omega (arith, ltb-false 68 l (s .level)), s .rest)
+deep-type (Tuple n) {l} k w p = absurd w
 
 -- d levels from level l on end at level 60 or above, C holds, and what follows is not too deep
 record Deep (l d : ℕ) (C : Type 0) (ws : List Want) (k : List Rec) : Type 0 where

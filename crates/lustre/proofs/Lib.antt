@@ -9,3 +9,4 @@ pub mod Reading
 pub mod Refusals
 pub mod Lowest
 pub mod Blank
+pub mod Tuples

@@ -11,7 +11,7 @@ use lib.IntN.{ℤ, pos, negℤ}
 use mir.Syntax.{w64}
 use mir.Val.{ofZ}
 use Rattle.lustre.specs.Name.{if_then_else_, _is_, lookup}
-use Rattle.lustre.specs.Types.{Ty, Array, Boolean, Int8, Int16, Int32, Int64, Uint8, Uint16, Uint32, Uint64, Float32, Float64, Character, tuple-type, unit-type}
+use Rattle.lustre.specs.Types.{Ty, Array, Tuple, Boolean, Int8, Int16, Int32, Int64, Uint8, Uint16, Uint32, Uint64, Float32, Float64, Character, unit-type}
 use Rattle.lustre.specs.Expr.{Expr, Map, Fold, Not, Neg, Eq, Lt, Add, unary, binary, ite, pre, arrow, index, tuple, array, cast, []ᵉ, _∷ᵉ_, []ⁱ}
 use Rattle.lustre.specs.Project.{Function}
 use Rattle.lustre.specs.Line.{Out, at-constant, plain}
@@ -37,7 +37,7 @@ abbrev others : List (Option Ty)
 others =
     none
     ∷ map some
-    (Float32 ∷ Float64 ∷ Boolean ∷ Character ∷ tuple-type ∷ unit-type ∷ Array 2 Int64 ∷ Named′ "real" ∷ Named′ "truth" ∷ Named′ "pair" ∷ Named′ "point" ∷ Named′ "spot" ∷ Named′ "circle" ∷ [])
+    (Float32 ∷ Float64 ∷ Boolean ∷ Character ∷ Tuple 2 ∷ unit-type ∷ Array 2 Int64 ∷ Named′ "real" ∷ Named′ "truth" ∷ Named′ "pair" ∷ Named′ "point" ∷ Named′ "spot" ∷ Named′ "circle" ∷ [])
 
 -- the aliases; `circle` leads to itself, `spot` to `point`, which is none
 abbrev scope : Scope

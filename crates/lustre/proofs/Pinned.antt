@@ -236,8 +236,8 @@ bodies =
     ∷ (alone Function [] ("x" of Int8 ∷ []) ("x" of Int64 ∷ []) ("x" ≔ num 1 ∷ []) [] gives E 12 on "x" ∷ [])
     -- E0020 or E0022, then E0021, name by name, for unknown names and inputs too
     ∷ (body Function ("i" ∷ []) ("x" ∷ []) [] (("z" ∷ "i" ∷ "x" ∷ "x" ∷ []) ≔≔ tuple []ᵉ ∷ ("z" ∷ "i" ∷ []) ≔≔ tuple []ᵉ ∷ []) []
-    gives E 20 eq 0 on "z" ∷ E 22 eq 0 on "i" ∷ E 21 eq 0 on "x"
-    ∷ E 20 eq 1 on "z" ∷ E 21 eq 1 on "z" ∷ E 22 eq 1 on "i" ∷ E 21 eq 1 on "i" ∷ [])
+    gives E 20 eq 0 on "z" ∷ E 22 eq 0 on "i" ∷ E 21 eq 0 on "x" ∷ E 42 eq 0
+    ∷ E 20 eq 1 on "z" ∷ E 21 eq 1 on "z" ∷ E 22 eq 1 on "i" ∷ E 21 eq 1 on "i" ∷ E 42 eq 1 ∷ [])
     ∷ (body Function [] ("x" ∷ "y" ∷ []) [] ("x" ≔ num 1 ∷ "y" ≔ num 1 ∷ "x" ≔ num 1 ∷ []) [] gives E 21 eq 2 on "x" ∷ [])
     -- an equation's lines: its names', E0030, E0070, E0146, typing, E0040 or E0041
     ∷ (project [] [] (node′ Function "n" [] (bytes ("x" ∷ [])) [] (("x" ∷ "x" ∷ []) ≔≔ when′ true "lost" (pre (iterate′ Fold "f" []ᵉ)) ∷ []) [] ∷ two-to-one ∷ [])
@@ -288,7 +288,7 @@ loops =
     gives loop 0 on "b" ∷ loop 1 on "c" ∷ loop 2 on "b" ∷ [] following 5)
     -- a name has the reads of all equations that define it, and each name of an equation has its reads
     ∷ (graph ("a" ∷ []) ("a" ≔ v "i" ∷ "a" ≔ v "a" ∷ []) gives E 21 eq 1 on "a" ∷ loop 0 on "a" ∷ loop 1 on "a" ∷ [] following 1)
-    ∷ (graph ("a" ∷ "b" ∷ []) (("a" ∷ "b" ∷ []) ≔≔ tuple (v "b" ∷ᵉ []ᵉ) ∷ []) gives loop 0 on "b" ∷ loop 1 on "b" ∷ [] following 2)
+    ∷ (graph ("a" ∷ "b" ∷ []) (("a" ∷ "b" ∷ []) ≔≔ tuple (v "b" ∷ᵉ v "b" ∷ᵉ []ᵉ) ∷ []) gives loop 0 on "b" ∷ loop 1 on "b" ∷ [] following 2)
     -- undeclared names and inputs are names of the graph
     ∷ (graph [] ("z" ≔ v "z" ∷ []) gives E 20 eq 0 on "z" ∷ E 80 at 0 on "z" ∷ loop 0 on "z" ∷ loop 1 on "z" ∷ [] following 1)
     ∷ (graph [] ("i" ≔ v "i" ∷ []) gives E 22 eq 0 on "i" ∷ loop 0 on "i" ∷ loop 1 on "i" ∷ [] following 1)

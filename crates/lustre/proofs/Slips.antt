@@ -18,7 +18,7 @@ n ta ts tx e = node′ Operator "n" ("a" of ta ∷ "s" of ts ∷ []) ("x" of tx 
 
 -- a function f with one input and two outputs, all Int32
 abbrev f : Node
-f = node′ Function "f" ("s" of Int32 ∷ []) ("o" of Int32 ∷ "q" of Int32 ∷ []) [] (("o" ∷ "q" ∷ []) ≔≔ tuple []ᵉ ∷ []) []
+f = node′ Function "f" ("s" of Int32 ∷ []) ("o" of Int32 ∷ "q" of Int32 ∷ []) [] (("o" ∷ "q" ∷ []) ≔≔ tuple (num 0 ∷ᵉ num 0 ∷ᵉ []ᵉ) ∷ []) []
 
 -- a function add of an accumulator and an element, all Int32
 abbrev add : Node
@@ -48,10 +48,8 @@ slips =
     (project (alias′ "T" Int32 ∷ []) [] (n Int8 Int8 Int32 (cast (Named′ "T") (v "a")) ∷ []) gives E 94 at 0 ∷ [])
     -- the left type is not resolved before it becomes the right operand's hint: an alias of Int8 is none, and 1 is Int32
     ∷ (project (alias′ "T" Int8 ∷ []) [] (n (Named′ "T") Int8 Boolean (binary Eq (v "a") (num 1)) ∷ []) gives E 84 at 0 ∷ [])
-    -- the items of a tuple are not typed, and its arity is not checked
-    ∷ (project [] [] (three-names (tuple (v "lost" ∷ᵉ call′ "lost" []ᵉ ∷ᵉ []ᵉ)) ∷ []) gives [])
-    -- (a, b, c) = f(s), where f has two outputs: the arity is not checked there either
-    ∷ (project [] [] (three-names (call′ "f" (v "s" ∷ᵉ []ᵉ)) ∷ f ∷ []) gives [])
+    -- the items of a tuple are not typed
+    ∷ (project [] [] (three-names (tuple (v "lost" ∷ᵉ call′ "lost" []ᵉ ∷ᵉ yes ∷ᵉ []ᵉ)) ∷ []) gives [])
     -- a clock is not looked for among constants: E0080
     ∷ (project [] (constant′ "k" Boolean yes ∷ []) (n Int32 Int8 Int32 (when′ true "k" (v "a")) ∷ []) gives E 80 at 0 on "k" ∷ [])
     -- a fold compares the first array's element type only; E0143 and E0144 look at all

@@ -37,7 +37,7 @@ two = unary Neg (v "i32")
 abbrev three : Expr
 three = unary Neg two
 
--- a part, then a pre: its E0070 says how many records the part is
+-- a part, then a pre, as a tuple of two for one name (E0042): its E0070 says how many records the part is
 abbrev before-pre : Expr → Expr
 before-pre e = tuple (e ∷ᵉ pre (v "i32") ∷ᵉ []ᵉ)
 
@@ -81,7 +81,7 @@ marked-parts =
     ∷ (operator Int32 (field′ "left" mark) gives marks (1 ∷ []) (2 ∷ []) (2 ∷ []))
     ∷ (operator Int32 (index mark mark) gives marks (1 ∷ 4 ∷ []) (2 ∷ 5 ∷ []) (2 ∷ []))
     ∷ (operator Int32 (index two mark) gives marks (3 ∷ []) (4 ∷ []) (4 ∷ []))
-    ∷ (operator Int32 (tuple (mark ∷ᵉ mark ∷ᵉ []ᵉ)) gives marks (1 ∷ 4 ∷ []) (2 ∷ 5 ∷ []) [])
+    ∷ (operator Int32 (tuple (mark ∷ᵉ mark ∷ᵉ []ᵉ)) gives marks (1 ∷ 4 ∷ []) (2 ∷ 5 ∷ []) [] ++ (E 42 eq 0 ∷ []))
     ∷ (operator Int32 (array (mark ∷ᵉ mark ∷ᵉ []ᵉ)) gives marks (1 ∷ 4 ∷ []) (2 ∷ 5 ∷ []) (2 ∷ []))
     ∷ (operator Int32 (array (two ∷ᵉ mark ∷ᵉ []ᵉ)) gives marks (3 ∷ []) (4 ∷ []) (4 ∷ []))
     ∷ (operator Point (struct′ "Point" (init′ "left" mark (init′ "right" mark []ⁱ))) gives marks (3 ∷ 7 ∷ []) (4 ∷ 8 ∷ []) (4 ∷ 8 ∷ []))
@@ -106,24 +106,24 @@ marked-parts =
 abbrev sizes : List (Seen × Seen)
 sizes =
     -- How many records each form is
-    (operator Int32 (before-pre (const bool 1)) gives E 70 at 2 ∷ [])
-    ∷ (operator Int32 (before-pre (v "i32")) gives E 70 at 2 ∷ [])
-    ∷ (operator Int32 (before-pre two) gives E 70 at 3 ∷ [])
-    ∷ (operator Int32 (before-pre (binary Add two three)) gives E 70 at 7 ∷ [])
-    ∷ (operator Int32 (before-pre (ite (v "bool") two three)) gives E 70 at 8 ∷ [])
-    ∷ (operator Int32 (before-pre (arrow (v "i32") (pre two))) gives E 70 at 6 ∷ [])
-    ∷ (operator Int32 (before-pre (arrow two three)) gives E 70 at 7 ∷ [])
-    ∷ (operator Int32 (before-pre (call′ "sum" (two ∷ᵉ three ∷ᵉ []ᵉ))) gives E 70 at 8 ∷ [])
-    ∷ (operator Int32 (before-pre (field′ "left" two)) gives E 70 at 4 ∷ [])
-    ∷ (operator Int32 (before-pre (index two three)) gives E 70 at 7 ∷ [])
-    ∷ (operator Int32 (before-pre (tuple (two ∷ᵉ three ∷ᵉ []ᵉ))) gives E 70 at 7 ∷ [])
-    ∷ (operator Int32 (before-pre (array (two ∷ᵉ three ∷ᵉ []ᵉ))) gives E 70 at 7 ∷ [])
-    ∷ (operator Int32 (before-pre (struct′ "Point" (init′ "left" two (init′ "right" three []ⁱ)))) gives E 70 at 10 ∷ [])
-    ∷ (operator Int32 (before-pre (cast (Array 2 Int8) two)) gives E 70 at 6 ∷ [])
-    ∷ (operator Int32 (before-pre (when′ true "bool" two)) gives E 70 at 4 ∷ [])
-    ∷ (operator Int32 (before-pre (merge′ "bool" two three)) gives E 70 at 7 ∷ [])
-    ∷ (operator Int32 (before-pre (iterate′ Map "next" (two ∷ᵉ three ∷ᵉ []ᵉ))) gives E 70 at 8 ∷ E 146 at 1 ∷ [])
-    ∷ (operator Int32 (before-pre (iterate-from′ Fold "sum" two (three ∷ᵉ []ᵉ))) gives E 70 at 8 ∷ E 146 at 1 ∷ [])
+    (operator Int32 (before-pre (const bool 1)) gives E 70 at 2 ∷ E 42 eq 0 ∷ [])
+    ∷ (operator Int32 (before-pre (v "i32")) gives E 70 at 2 ∷ E 42 eq 0 ∷ [])
+    ∷ (operator Int32 (before-pre two) gives E 70 at 3 ∷ E 42 eq 0 ∷ [])
+    ∷ (operator Int32 (before-pre (binary Add two three)) gives E 70 at 7 ∷ E 42 eq 0 ∷ [])
+    ∷ (operator Int32 (before-pre (ite (v "bool") two three)) gives E 70 at 8 ∷ E 42 eq 0 ∷ [])
+    ∷ (operator Int32 (before-pre (arrow (v "i32") (pre two))) gives E 70 at 6 ∷ E 42 eq 0 ∷ [])
+    ∷ (operator Int32 (before-pre (arrow two three)) gives E 70 at 7 ∷ E 42 eq 0 ∷ [])
+    ∷ (operator Int32 (before-pre (call′ "sum" (two ∷ᵉ three ∷ᵉ []ᵉ))) gives E 70 at 8 ∷ E 42 eq 0 ∷ [])
+    ∷ (operator Int32 (before-pre (field′ "left" two)) gives E 70 at 4 ∷ E 42 eq 0 ∷ [])
+    ∷ (operator Int32 (before-pre (index two three)) gives E 70 at 7 ∷ E 42 eq 0 ∷ [])
+    ∷ (operator Int32 (before-pre (tuple (two ∷ᵉ three ∷ᵉ []ᵉ))) gives E 70 at 7 ∷ E 42 eq 0 ∷ [])
+    ∷ (operator Int32 (before-pre (array (two ∷ᵉ three ∷ᵉ []ᵉ))) gives E 70 at 7 ∷ E 42 eq 0 ∷ [])
+    ∷ (operator Int32 (before-pre (struct′ "Point" (init′ "left" two (init′ "right" three []ⁱ)))) gives E 70 at 10 ∷ E 42 eq 0 ∷ [])
+    ∷ (operator Int32 (before-pre (cast (Array 2 Int8) two)) gives E 70 at 6 ∷ E 42 eq 0 ∷ [])
+    ∷ (operator Int32 (before-pre (when′ true "bool" two)) gives E 70 at 4 ∷ E 42 eq 0 ∷ [])
+    ∷ (operator Int32 (before-pre (merge′ "bool" two three)) gives E 70 at 7 ∷ E 42 eq 0 ∷ [])
+    ∷ (operator Int32 (before-pre (iterate′ Map "next" (two ∷ᵉ three ∷ᵉ []ᵉ))) gives E 70 at 8 ∷ E 146 at 1 ∷ E 42 eq 0 ∷ [])
+    ∷ (operator Int32 (before-pre (iterate-from′ Fold "sum" two (three ∷ᵉ []ᵉ))) gives E 70 at 8 ∷ E 146 at 1 ∷ E 42 eq 0 ∷ [])
     ∷ []
 
 -- rows of temporal operators in a function
@@ -134,7 +134,7 @@ temporal =
     ∷ (function Int32 (pre (v "i32")) gives E 30 eq 0 ∷ E 70 at 0 ∷ [])
     ∷ (function Int32 (arrow (v "i32") (pre (v "i32"))) gives E 30 eq 0 ∷ [])
     ∷ (function Int32 (v "i32") gives [])
-    ∷ (function Int32 (tuple (num 1 ∷ᵉ iterate′ Map "next" []ᵉ ∷ᵉ v "i32" ∷ᵉ arrow (v "i32") (v "i32") ∷ᵉ []ᵉ)) gives E 30 eq 0 ∷ E 146 at 2 ∷ [])
+    ∷ (function Int32 (tuple (num 1 ∷ᵉ iterate′ Map "next" []ᵉ ∷ᵉ v "i32" ∷ᵉ arrow (v "i32") (v "i32") ∷ᵉ []ᵉ)) gives E 30 eq 0 ∷ E 146 at 2 ∷ E 42 eq 0 ∷ [])
     ∷ (operator Int32 (arrow (v "i32") (v "i32")) gives [])
     ∷ []
 

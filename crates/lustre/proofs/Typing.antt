@@ -9,7 +9,7 @@ use Rattle.lustre.specs.Expr.{Expr, Map, Fold, Not, Neg, And, Or, Xor, I
 use Rattle.lustre.specs.Expr.{BitAnd, BitOr, BitXor, Shl, Shr, const, float, char, unary, binary, ite, pre, arrow, index, tuple, array, cast, []ᵉ, _∷ᵉ_, []ⁱ}
 use Rattle.lustre.specs.Computes.{computes}
 use Rattle.lustre.proofs.Models.{v, call′, field′, struct′, init′, when′, merge′, iterate′, iterate-from′, num, minus, yes}
-use Rattle.lustre.proofs.Models.{E_at_, E_at_on_, Named′, Small, Pair, Point, Spot, Colour, operator, function, other-type, Seen, _gives_}
+use Rattle.lustre.proofs.Models.{E_at_, E_at_on_, E_eq_, Named′, Small, Pair, Point, Spot, Colour, operator, function, other-type, Seen, _gives_}
 
 -- an unknown name, whose E0080 shows that it is typed, and where
 abbrev lost : Expr
@@ -169,7 +169,9 @@ operators =
     ∷ (operator Boolean (binary Eq (v "point") (v "i32")) gives E 84 at 0 ∷ [])
     ∷ (operator Boolean (binary Eq (v "point") (v "ints")) gives E 84 at 0 ∷ [])
     ∷ (operator Boolean (binary Eq (v "ints") (v "point")) gives E 84 at 0 ∷ [])
-    ∷ (operator Boolean (binary Eq (tuple []ᵉ) (call′ "two" []ᵉ)) gives [])
+    ∷ (operator Boolean (binary Eq (tuple []ᵉ) (call′ "two" []ᵉ)) gives E 84 at 0 ∷ [])
+    ∷ (operator Boolean (binary Eq (tuple (lost ∷ᵉ lost ∷ᵉ []ᵉ)) (call′ "two" []ᵉ)) gives [])
+    ∷ (operator Boolean (binary Eq (v "i32") (call′ "two" []ᵉ)) gives E 84 at 0 ∷ [])
     ∷ (operator Boolean (binary Eq (tuple []ᵉ) (call′ "quiet" []ᵉ)) gives E 84 at 0 ∷ [])
     ∷ (operator Int8 (binary Eq (v "i32") (v "i32")) gives other-type ∷ [])
     -- order wants two numbers of one type
@@ -289,11 +291,12 @@ calls =
     ∷ (operator Int8 (call′ "sum" (v "bool" ∷ᵉ lost ∷ᵉ []ᵉ)) gives E 103 at 0 on "sum" ∷ E 80 at 3 on "lost" ∷ other-type ∷ [])
     ∷ (operator Int8 (call′ "tiny" (num 1 ∷ᵉ []ᵉ)) gives [])
     ∷ (operator Int8 (call′ "tiny" (v "i8" ∷ᵉ []ᵉ)) gives [])
-    -- one output gives its type, none the unit, several a tuple: a tuple for one name is no E0040, a unit is
+    -- one output gives its type, none the unit, several a tuple: E0040 for a unit, E0042 for a tuple of another number than one
     ∷ (operator Boolean (call′ "test" (v "i32" ∷ᵉ []ᵉ)) gives [])
     ∷ (operator Int32 (call′ "quiet" []ᵉ) gives other-type ∷ [])
-    ∷ (operator Int32 (call′ "two" []ᵉ) gives [])
+    ∷ (operator Int32 (call′ "two" []ᵉ) gives E 42 eq 0 ∷ [])
     ∷ (operator Int32 (tuple (lost ∷ᵉ []ᵉ)) gives [])
+    ∷ (operator Int32 (tuple []ᵉ) gives E 42 eq 0 ∷ [])
     ∷ []
 
 -- rows of fields
@@ -352,7 +355,8 @@ arrays =
     ∷ (operator (Array 1 ints) (array (array (num 1 ∷ᵉ num 2 ∷ᵉ []ᵉ) ∷ᵉ []ᵉ)) gives [])
     ∷ (operator Boolean (binary Eq (array (v "i8" ∷ᵉ num 1 ∷ᵉ []ᵉ)) (v "ints")) gives E 124 at 1 ∷ [])
     ∷ (operator Int8 (array (num 1 ∷ᵉ []ᵉ)) gives other-type ∷ [])
-    ∷ (operator Int8 (array (tuple []ᵉ ∷ᵉ call′ "two" []ᵉ ∷ᵉ []ᵉ)) gives other-type ∷ [])
+    ∷ (operator Int8 (array (tuple (lost ∷ᵉ lost ∷ᵉ []ᵉ) ∷ᵉ call′ "two" []ᵉ ∷ᵉ []ᵉ)) gives other-type ∷ [])
+    ∷ (operator Int8 (array (tuple []ᵉ ∷ᵉ call′ "two" []ᵉ ∷ᵉ []ᵉ)) gives E 124 at 0 ∷ [])
     -- items agree with the first, up to aliases; after E0124 no item is typed, nor after one without a type
     ∷ (operator (Array 2 Int8) (array (v "small" ∷ᵉ v "i8" ∷ᵉ []ᵉ)) gives [])
     ∷ (operator (Array 3 Int8) (array (v "i8" ∷ᵉ v "i32" ∷ᵉ lost ∷ᵉ []ᵉ)) gives E 124 at 0 ∷ [])

@@ -112,10 +112,12 @@ unfoldable mutual
   visitsⁱ at []ⁱ = []
   visitsⁱ at (init x e is) = visit (at + 1) e ++ visitsⁱ (at + 1 + size e) is
 
--- what the Rust's `matches!` asks of an expression
+-- what the Rust's `matches!` asks of an expression, and whether it is a call
 pub data Form : Type 0 where
   integer : ℤ → Form
-  temporal iterator other : Form
+  temporal iterator : Form
+  calling : Name → Form
+  other : Form
 
 unfoldable pub literal-form : Literal → ℕ → Form
 literal-form bool w = other
@@ -131,7 +133,7 @@ form (binary o l r) = other
 form (ite c t e) = other
 form (pre e) = temporal
 form (arrow i b) = temporal
-form (call f es) = other
+form (call f es) = calling f
 form (field x e) = other
 form (index b i) = other
 form (tuple es) = other
@@ -145,7 +147,7 @@ form (iterate-from k f s es) = iterator
 
 unfoldable pub any-temporal : List (ℕ × Expr) → Bool
 any-temporal [] = false
-any-temporal (x ∷ xs) = elim (form (x .1)) [ integer v ↦ any-temporal xs | temporal ↦ true | iterator ↦ any-temporal xs | other ↦ any-temporal xs ]
+any-temporal (x ∷ xs) = elim (form (x .1)) [ integer v ↦ any-temporal xs | temporal ↦ true | iterator ↦ any-temporal xs | calling f ↦ any-temporal xs | other ↦ any-temporal xs ]
 
 -- `Expr::contains_temporal`
 unfoldable pub contains-temporal : Expr → Bool

@@ -9,7 +9,7 @@ use lib.Dec.{eqb}
 use lib.ListN.{length, replicate}
 use Rattle.lustre.specs.Name.{Name}
 use Rattle.lustre.specs.Records.{Rec}
-use Rattle.lustre.specs.Types.{Ty, basic, Array, Named}
+use Rattle.lustre.specs.Types.{Ty, basic, Array, Named, Tuple}
 use Rattle.lustre.specs.Expr.{Expr, Exprs, Inits, Literal, UnaryOp, BinOp, IterKind}
 use Rattle.lustre.specs.Expr.{const, var, unary, binary, ite, pre, arrow, call, field, index, tuple, array, struct, cast, when, merge, iterate, iterate-from, []ᵉ, _∷ᵉ_, []ⁱ, init}
 use Rattle.lustre.specs.Expr.{bool, int, float, char, Not, Neg, And, Or, Xor, Implies, Eq, Neq, Lt, Le, Gt, Ge, Add, Sub, Mul, Div, Mod, BitAnd, BitOr, BitXor, Shl, Shr, Map, Fold}
@@ -277,10 +277,12 @@ unfoldable pub countⁱ : Inits → ℕ
 countⁱ []ⁱ = 0
 countⁱ (init x e is) = suc (countⁱ is)
 
+-- no record has kind 34, and no tree that is read has a tuple for a type
 unfoldable pub flat-type : Ty → List Rec → List Rec
 flat-type (basic b) k = plain-rec b ∷ k
 flat-type (Array n t) k = numbered-rec 32 n ∷ flat-type t k
 flat-type (Named x) k = named-rec 33 x ∷ k
+flat-type (Tuple n) k = numbered-rec 34 n ∷ k
 
 unfoldable mutual
   pub flat : Expr → List Rec → List Rec

@@ -9,10 +9,11 @@ use lib.Dec.{eqb, leb}
 use lib.ListN.{length}
 use lib.IntN.{negℤ}
 use Rattle.lustre.specs.Name.{Name, if_then_else_, _among_, find}
-use Rattle.lustre.specs.Types.{Ty, basic, Array, Named, Boolean, Int32, tuple-type, unit-type, same-type, is-integer, is-numeric, is-bool, levels}
-use Rattle.lustre.specs.Expr.{Expr, Exprs, Inits, UnaryOp, Not, Neg, IterKind, Map, Fold, OpClass, Logic, Equality, Order, Arithmetic, Bitwise, op-class, Form, integer, temporal, iterator, other, form, size}
+use Rattle.lustre.specs.Types.{Ty, basic, Array, Named, Tuple, Boolean, Int32, unit-type, same-type, is-integer, is-numeric, is-bool, levels}
+use Rattle.lustre.specs.Expr.{Expr, Exprs, Inits, UnaryOp, Not, Neg, IterKind, Map, Fold, OpClass, Logic, Equality, Order, Arithmetic, Bitwise, op-class, Form, integer, temporal, iterator, calling, other, form, size}
 use Rattle.lustre.specs.Expr.{const, var, unary, binary, ite, pre, arrow, call, field, index, tuple, array, struct, cast, when, merge, iterate, iterate-from, []ᵉ, _∷ᵉ_, []ⁱ, init}
 use Rattle.lustre.specs.Project.{Port, Heading, is-function, is-operator}
+use Rattle.lustre.specs.Grammar.{count}
 use Rattle.lustre.specs.Line.{Note, Out, plain, named, return, fail, add, require, try, _>>=_, _>>_}
 use Rattle.lustre.specs.Resolve.{Scope, resolve, compatible}
 use Rattle.lustre.specs.Literal.{literal-type, integer-type}
@@ -68,11 +69,11 @@ gives Bitwise l = l
 unfoldable pub literal-rule : ℕ → Option Ty → Out Ty
 literal-rule at t = if-found t return (fail (plain at 95))
 
--- the type of a call, lib.rs 1001
+-- the type of a call, lib.rs 1001; a tuple has as many members as there are outputs
 unfoldable pub outputs-type : List Port → Ty
 outputs-type [] = unit-type
 outputs-type (o ∷ []) = o .1
-outputs-type (o ∷ p ∷ ps) = tuple-type
+outputs-type (o ∷ p ∷ ps) = Tuple (length (o ∷ p ∷ ps))
 
 -- E0142, lib.rs 1270
 unfoldable pub one-output : Note → List Port → Out Ty
@@ -92,11 +93,13 @@ unfoldable pub array-type : Note → Ty → Out (ℕ × Ty)
 array-type n (basic b) = fail n
 array-type n (Array k t) = return (k, t)
 array-type n (Named x) = fail n
+array-type n (Tuple k) = fail n
 
 unfoldable pub element-of : Ty → Option Ty
 element-of (basic b) = none
 element-of (Array k t) = some t
 element-of (Named x) = none
+element-of (Tuple k) = none
 
 unfoldable pub all-long : ℕ → List (ℕ × Ty) → Bool
 all-long n [] = true
@@ -167,6 +170,7 @@ module _ (Γ : Scope) where
   unary-rule at Neg (integer v) arg = λ hint. literal-rule at (integer-type (Γ .alias) (negℤ v) hint)
   unary-rule at Neg temporal arg = unary-plain at Neg arg
   unary-rule at Neg iterator arg = unary-plain at Neg arg
+  unary-rule at Neg (calling f) arg = unary-plain at Neg arg
   unary-rule at Neg other arg = unary-plain at Neg arg
 
   -- lib.rs 805
@@ -217,6 +221,7 @@ module _ (Γ : Scope) where
   unfoldable pub field-of : ℕ → Name → Ty → Out Ty
   field-of at x (basic b) = fail (named at (if leb 34 b then 121 else 122) x)
   field-of at x (Array n t) = fail (named at 122 x)
+  field-of at x (Tuple n) = fail (named at 121 x)
   field-of at x (Named r) = if-found (Γ .fields r) (λ fields. if-found (find x fields) return (fail (named at 120 x))) (fail (named at 121 x))
 
   unfoldable pub field-rule : ℕ → Name → Typing → Typing
@@ -270,6 +275,7 @@ module _ (Γ : Scope) where
   resolved-name n (basic b) = n
   resolved-name n (Array k t) = n
   resolved-name n (Named r) = r
+  resolved-name n (Tuple k) = n
 
   unfoldable pub struct-name : Name → Name
   struct-name n = resolved-name n (res (Named n))
@@ -405,7 +411,7 @@ module _ (Γ : Scope) (function : Bool) where
     infer at (call f es) = call-rule at f (infers (at + 2) es)
     infer at (field x e) = field-rule Γ at x (infer (at + 1) e)
     infer at (index b i) = index-rule Γ at (infer (at + 1) b) (infer (at + 1 + size b) i)
-    infer at (tuple es) = λ hint. return tuple-type
+    infer at (tuple es) = λ hint. return (Tuple (count es))
     infer at (array es) = array-rule Γ at (infers (at + 1) es)
     infer at (struct n is) = struct-rule Γ at (struct-name Γ n) (infersⁱ (at + 2) is)
     infer at (cast t e) = cast-rule Γ at t (infer (at + 1 + levels t) e)

@@ -8,7 +8,7 @@ use lib.IntN.{ℤ, pos, negsuc}
 use mir.Syntax.{w64}
 use mir.Val.{toZ}
 use Rattle.lustre.specs.Name.{if_then_else_}
-use Rattle.lustre.specs.Types.{Ty, basic, Array, Named, Boolean, Int32, Float64, Character, Range, signed, unsigned, range-of, is-float}
+use Rattle.lustre.specs.Types.{Ty, basic, Array, Named, Tuple, Boolean, Int32, Float64, Character, Range, signed, unsigned, range-of, is-float}
 use Rattle.lustre.specs.Expr.{Literal, bool, int, float, char}
 use Rattle.lustre.specs.Resolve.{Aliases, resolve}
 
@@ -28,6 +28,7 @@ unfoldable pub fits : ℤ → Ty → Bool
 fits v (basic b) = in-some-range v (range-of b)
 fits v (Array n t) = false
 fits v (Named x) = false
+fits v (Tuple n) = false
 
 -- Int32, if the number fits it. The Rust gives Int32 to every number; by request 2.10 one that doesn't fit has no type
 unfoldable pub int32-type : ℤ → Option Ty

@@ -4,10 +4,12 @@ use Prim.Native.Nat.{ℕ, suc}
 use mathlib.Core.Bool.{false, _&&_}
 use mathlib.Core.List.{List, [], _∷_, _++_, map}
 use mathlib.Core.Option.{Option, none, some}
+use lib.Dec.{eqb}
+use lib.ListN.{length}
 use Rattle.lustre.specs.Name.{Name, if_then_else_, _among_, lookup}
-use Rattle.lustre.specs.Types.{Ty, is-tuple}
-use Rattle.lustre.specs.Expr.{contains-temporal}
-use Rattle.lustre.specs.Project.{Port, NodeKind, Function, Operator, Imported, Equation, Node, is-function, port-names}
+use Rattle.lustre.specs.Types.{Ty, members}
+use Rattle.lustre.specs.Expr.{Form, form, integer, temporal, iterator, calling, other, contains-temporal}
+use Rattle.lustre.specs.Project.{Port, NodeKind, Function, Operator, Imported, Equation, Node, Heading, is-function, port-names}
 use Rattle.lustre.specs.Line.{Note, Remark, plain, bare, about}
 use Rattle.lustre.specs.Resolve.{Scope, within-node, compatible}
 use Rattle.lustre.specs.Init.{pres}
@@ -49,20 +51,47 @@ wanted env [] = none
 wanted env (a ∷ []) = lookup a env
 wanted env (a ∷ b ∷ bs) = none
 
--- lib.rs 440: E0040
-unfoldable pub bound-one : Scope → Name → Ty → Option Ty → List Note
-bound-one Γ a t none = []
-bound-one Γ a t (some want) = if compatible (Γ .alias) want t then [] else if is-tuple t then [] else about 40 a ∷ []
+-- this code where a value of type t is given to the name a whose declared type, if it has one, is another once both are resolved
+unfoldable pub bound-one : Scope → ℕ → Name → Ty → Option Ty → List Note
+bound-one Γ code a t none = []
+bound-one Γ code a t (some want) = if compatible (Γ .alias) want t then [] else about code a ∷ []
 
--- lib.rs 459: E0041
-unfoldable pub bound-many : Ty → List Note
-bound-many t = if is-tuple t then [] else bare 41 ∷ []
+-- no tuple: E0040 for one name, lib.rs 440, E0041 for none or several, lib.rs 459
+unfoldable pub bound-plain : Scope → List Port → List Name → Ty → List Note
+bound-plain Γ env [] t = bare 41 ∷ []
+bound-plain Γ env (a ∷ []) t = bound-one Γ 40 a t (lookup a env)
+bound-plain Γ env (a ∷ b ∷ bs) t = bare 41 ∷ []
 
-unfoldable pub bound : Scope → List Port → List Name → Option Ty → List Note
-bound Γ env as′ none = []
-bound Γ env [] (some t) = bound-many t
-bound Γ env (a ∷ []) (some t) = bound-one Γ a t (lookup a env)
-bound Γ env (a ∷ b ∷ bs) (some t) = bound-many t
+-- request 2.8, E0043: each name and the output at its position
+unfoldable pub bound-each : Scope → List Port → List Name → List Port → List Note
+bound-each Γ env [] os = []
+bound-each Γ env (a ∷ as′) [] = []
+bound-each Γ env (a ∷ as′) (o ∷ os) = bound-one Γ 43 a (o .1) (lookup a env) ++ bound-each Γ env as′ os
+
+unfoldable pub outputs-in : Option Heading → List Port
+outputs-in none = []
+outputs-in (some sig) = sig .outputs
+
+-- the outputs of the node that a right-hand side of this form calls; none where it is itself no call
+unfoldable pub called-outputs : Scope → Form → List Port
+called-outputs Γ (integer v) = []
+called-outputs Γ temporal = []
+called-outputs Γ iterator = []
+called-outputs Γ (calling f) = outputs-in (Γ .node f)
+called-outputs Γ other = []
+
+-- request 2.8, a tuple of n members: E0042 where there is another number of names, else E0043
+unfoldable pub bound-tuple : Scope → List Port → List Name → Form → ℕ → List Note
+bound-tuple Γ env as′ f n = if eqb n (length as′) then bound-each Γ env as′ (called-outputs Γ f) else bare 42 ∷ []
+
+unfoldable pub bound-as : Scope → List Port → List Name → Form → Ty → Option ℕ → List Note
+bound-as Γ env as′ f t none = bound-plain Γ env as′ t
+bound-as Γ env as′ f t (some n) = bound-tuple Γ env as′ f n
+
+-- the names assigned and the type of their right-hand side, of a form
+unfoldable pub bound : Scope → List Port → List Name → Form → Option Ty → List Note
+bound Γ env as′ f none = []
+bound Γ env as′ f (some t) = bound-as Γ env as′ f t (members t)
 
 -- lib.rs 378 to 472: one equation, where names before it are assigned
 unfoldable pub equation-notes : Scope → Node → List Port → List Name → Equation → List Note
@@ -73,7 +102,7 @@ equation-notes Γ n env seen q =
     ++ map (λ at. plain at 70) (pres 0 (q .rhs) false)
     ++ map (λ at. plain at 146) (nested (q .rhs))
     ++ typed .1
-    ++ bound Γ env (q .lhs) (typed .0)
+    ++ bound Γ env (q .lhs) (form (q .rhs)) (typed .0)
 
 unfoldable pub of-equation : ℕ → Note → Remark
 of-equation i m = record { equation = some i; note = m }

@@ -5,7 +5,7 @@ use mathlib.Core.Bool.{Bool, true, false}
 use mathlib.Core.List.{List, [], _∷_, _++_, map}
 use mathlib.Core.Option.{Option, none, some}
 use Rattle.lustre.specs.Name.{Name, _among_, lookup}
-use Rattle.lustre.specs.Types.{Ty, basic, Array, Named, same-type}
+use Rattle.lustre.specs.Types.{Ty, basic, Array, Named, Tuple, same-type}
 use Rattle.lustre.specs.Project.{Port, Decl, Alias, Record, Enum, Heading, Skeleton, all-types, all-constants, all-nodes}
 
 -- What each name means where an expression stands: `TypeContext` by sort of name, the signatures of `check_project`, and the ports
@@ -69,6 +69,7 @@ follow-alias x g (some target) = g target
 unfoldable pub try-resolve : Aliases → ℕ → List Name → Ty → Option Ty
 try-resolve al zero seen t = none
 try-resolve al (suc left) seen (basic b) = some (basic b)
+try-resolve al (suc left) seen (Tuple n) = some (Tuple n)
 try-resolve al (suc left) seen (Array n t) = array-of n (try-resolve al left seen t)
 try-resolve al (suc left) seen (Named x) =
     follow-alias x (λ target. elim (x among seen) [ true ↦ none | false ↦ try-resolve al left (x ∷ seen) target ]) (al x)

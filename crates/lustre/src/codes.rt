@@ -33,6 +33,10 @@ pub const E0030: u64 = 30;
 pub const E0040: u64 = 40;
 // A right-hand side for other than one name is no tuple.
 pub const E0041: u64 = 41;
+// A tuple has another number of members than there are names, request 2.8.
+pub const E0042: u64 = 42;
+// A name is not of the type of the call's output at its position, request 2.8.
+pub const E0043: u64 = 43;
 // An output is not defined.
 pub const E0050: u64 = 50;
 // A name of a loop.

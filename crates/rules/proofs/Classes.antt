@@ -123,6 +123,6 @@ pub meets-not : (s t : Ty) → (kind-of s ≡ kind-of t → ⊥) → (c : OpClas
 unfolding rank meets
 meets-not s t h Logic e = other-truth s t h
 meets-not s t h Equality e = absurd (e refl)
-meets-not s t h Order e = other-kind 21 30 (omega arith) s t h
-meets-not s t h Arithmetic e = other-kind 21 30 (omega arith) s t h
-meets-not s t h Bitwise e = other-kind 21 28 (omega arith) s t h
+meets-not s t h Order e = other-kind 21 30 (omega arith) (omega arith) s t h
+meets-not s t h Arithmetic e = other-kind 21 30 (omega arith) (omega arith) s t h
+meets-not s t h Bitwise e = other-kind 21 28 (omega arith) (omega arith) s t h

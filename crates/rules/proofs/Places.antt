@@ -9,7 +9,7 @@ use mathlib.Core.List.{List, _∷_}
 use lib.ListN.{length, getD, drop}
 use lib.Seq.{drop-cons}
 use borrow.Author.Tests.{lt-ltb, le-leb, ne-eqb}
-use Rattle.lustre.specs.Types.{Ty, basic, Array, Named, levels}
+use Rattle.lustre.specs.Types.{Ty, basic, Array, Named, Tuple, levels}
 use Rattle.standing.specs.Standing.{Source, word, Type-at}
 use Rattle.standing.proofs.Inversions.{type-record, type-kind, array-type-here, named-here}
 use Rattle.types.specs.Value.{Naming, bottom}
@@ -53,8 +53,9 @@ module _ (S : Source) where
       let r = basic-range b at s in
       let n₁ = ne-eqb b 32 (λ e. omega (arith, r .1)) in
       let n₂ = ne-eqb b 33 (λ e. omega (arith, r .1)) in
+      let n₃ = ne-eqb b 34 (λ e. omega (arith, r .1)) in
       rw (kinds-from at (s .0 .in-kinds), words-from at (s .0 .in-words), s .0 .kind)
-      (record { whole = rw (n₁, n₂, le-leb 20 b (r .0), le-leb b 31 (r .1)); levels = rw n₁; is = rw (n₁, n₂) })
+      (record { whole = rw (n₁, n₂, le-leb 20 b (r .0), le-leb b 31 (r .1)); levels = rw n₁; is = rw (n₁, n₂, n₃) })
   stands (Array n t) at s =
       let r = stands t (at + 1) (s .3) in
       rw (kinds-from at (s .0 .in-kinds), words-from at (s .0 .in-words), s .0 .kind, s .1)
@@ -62,6 +63,7 @@ module _ (S : Source) where
   stands (Named x) at s =
       rw (kinds-from at (s .0 .in-kinds), words-from at (s .0 .in-words), s .0 .kind)
       (record { whole = lt-ltb (word S at) 512 (s .1 .small); levels = refl; is = ap Named (s .1 .text) })
+  stands (Tuple n) at s = absurd s
 
 module _ {S : Source} {t : Ty} {at : ℕ} (g : Typed S t at) where
   -- it begins within the records

@@ -8,7 +8,7 @@ use mathlib.Core.List.{List, [], _∷_}
 use mathlib.Core.Option.{none, some}
 use lib.ListN.{length, getD}
 use Rattle.lustre.specs.Name.{Name, if_then_else_, _is_, find}
-use Rattle.lustre.specs.Types.{Ty, basic, Array, Named, levels, unit-type, tuple-type}
+use Rattle.lustre.specs.Types.{Ty, basic, Array, Named, Tuple, levels, unit-type}
 use Rattle.lustre.specs.Project.{Port, Heading, NodeKind, Function, Operator, Imported, is-operator}
 use Rattle.lustre.specs.Grammar.{node-kind}
 use Rattle.lustre.specs.Line.{Note}
@@ -41,6 +41,7 @@ unfolding Type-at levels
 one-level S (basic b) i s h = refl
 one-level S (Array n u) i s h = absurd (h (s .0 .kind))
 one-level S (Named x) i s h = refl
+one-level S (Tuple n) i s h = absurd s
 
 levels-array : (u e : Ty) (n : ℕ) → u ≡ Array n e → levels u ≡ levels e + 1
 unfolding levels
@@ -162,14 +163,14 @@ module _ {ks ws : List ℕ} {at : ℕ} (g : Ports-here ks ws at) where
   unfolding outputs-type
   outputs-none e = rw (no-items (g .ps) (sym (g .listed .stand .many) ∙ e))
 
-  pub outputs-more : (getD ws at 0 ≡ 0 → ⊥) → (getD ws at 0 ≡ 1 → ⊥) → outputs-type (g .ps) ≡ tuple-type
+  pub outputs-more : (getD ws at 0 ≡ 0 → ⊥) → (getD ws at 0 ≡ 1 → ⊥) → outputs-type (g .ps) ≡ Tuple (getD ws at 0)
   unfolding outputs-type
   outputs-more a b = go (g .ps) (g .listed .stand .many)
     where
-      go : (ps : List Port) → getD ws at 0 ≡ length ps → outputs-type ps ≡ tuple-type
+      go : (ps : List Port) → getD ws at 0 ≡ length ps → outputs-type ps ≡ Tuple (getD ws at 0)
       go [] h = absurd (a h)
       go (p ∷ []) h = absurd (b h)
-      go (p ∷ r ∷ ps) h = refl
+      go (p ∷ r ∷ ps) h = ap Tuple (sym h)
 
   -- the only port
   pub record Only : Type 0 where

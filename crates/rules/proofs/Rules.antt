@@ -9,7 +9,7 @@ use mathlib.Core.Option.{Option, none, some}
 use lib.Dec.{eqb}
 use borrow.Author.Tests.{ne-eqb, le-leb, lt-leb, eqb-true, eqb-false}
 use Rattle.lustre.specs.Name.{Name, find}
-use Rattle.lustre.specs.Types.{Ty, basic, Array, Named}
+use Rattle.lustre.specs.Types.{Ty, basic, Array, Named, Tuple}
 use Rattle.lustre.specs.Expr.{UnaryOp, Not, Neg}
 use Rattle.lustre.specs.Grammar.{unary-kind}
 use Rattle.lustre.specs.Project.{Port}
@@ -19,14 +19,14 @@ use Rattle.lustre.specs.Infer.{if-found, literal-rule, var-rule, field-of, arra
 use Rattle.types.specs.Value.{Naming, bottom, asTy, Known, ArrayOf}
 use Rattle.types.specs.Number.{basic-of, KindIs}
 use Rattle.types.specs.declared.Typ.{Typ}
-use Rattle.types.proofs.Values.{bottom-basic, bottom-name, view-flat, view-array}
+use Rattle.types.proofs.Values.{bottom-cases, bottom-basic, bottom-name, view-flat, view-array}
 
 -- ---- types by value
 
 module _ (ρ : Naming) (t : Typ) where
-  -- a type with no lengths is a basic type or a name
-  pub is-basic : t .levels ≡ 0 → (t .base ≡ 33 → ⊥) → asTy ρ t ≡ basic (t .base)
-  is-basic z h = view-flat ρ t z ∙ bottom-basic ρ (t .base) (t .name) h
+  -- a type with no lengths is a basic type, a name or a tuple
+  pub is-basic : t .levels ≡ 0 → (t .base ≡ 33 → ⊥) → (t .base ≡ 34 → ⊥) → asTy ρ t ≡ basic (t .base)
+  is-basic z h g = view-flat ρ t z ∙ bottom-basic ρ (t .base) (t .name) h g
 
   pub is-named : t .levels ≡ 0 → t .base ≡ 33 → asTy ρ t ≡ Named (ρ (t .name))
   is-named z h = view-flat ρ t z ∙ bottom-name ρ (t .base) (t .name) h
@@ -36,12 +36,8 @@ pub element-known : {n : ℕ} {e t : Typ} → ArrayOf n e t → Known t → Know
 element-known a k h = omega (arith, k (a .base ∙ h), a .name)
 
 -- a type with no lengths is no array
-flat-case : (ρ : Naming) (t : Typ) (P : Ty → Type 0) → t .levels ≡ 0 → ((b : ℕ) → P (basic b)) → ((x : Name) → P (Named x)) → P (asTy ρ t)
-flat-case ρ t P z b x = rw (view-flat ρ t z) (go (eqb (t .base) 33) refl)
-  where
-    go : (c : Bool) → eqb (t .base) 33 ≡ c → P (bottom ρ (t .base) (t .name))
-    go true e = rw (bottom-name ρ (t .base) (t .name) (eqb-true (t .base) 33 e)) (x (ρ (t .name)))
-    go false e = rw (bottom-basic ρ (t .base) (t .name) (eqb-false (t .base) 33 e)) (b (t .base))
+flat-case : (ρ : Naming) (t : Typ) (P : Ty → Type 0) → t .levels ≡ 0 → ((b : ℕ) → P (basic b)) → ((x : Name) → P (Named x)) → ((n : ℕ) → P (Tuple n)) → P (asTy ρ t)
+flat-case ρ t P z b x n = rw (view-flat ρ t z) (bottom-cases P ρ (t .base) (t .name) (λ e. x (ρ (t .name))) (λ e. n (t .name)) (λ h g. b (t .base)))
 
 -- ---- literals
 
@@ -96,11 +92,13 @@ module _ (Γ : Scope) (at : ℕ) (x : Name) (ρ : Naming) (t : Typ) where
     -- a tuple's or a unit's
     pub field-special : 33 < t .base → field-of Γ at x (asTy ρ t) ≡ fail (named at 121 x)
     unfolding field-of
-    field-special h = rw (is-basic ρ t z (λ e. omega arith), le-leb 34 (t .base) (omega arith))
+    field-special h =
+        rw (view-flat ρ t z)
+        (bottom-cases (λ u. field-of Γ at x u ≡ fail (named at 121 x)) ρ (t .base) (t .name) (λ e. absurd (omega arith)) (λ e. refl) (λ f g. rw (le-leb 34 (t .base) (omega arith))))
 
     pub field-basic : t .base < 33 → field-of Γ at x (asTy ρ t) ≡ fail (named at 122 x)
     unfolding field-of
-    field-basic h = rw (is-basic ρ t z (λ e. omega arith), lt-leb 34 (t .base) (omega arith))
+    field-basic h = rw (is-basic ρ t z (λ e. omega arith) (λ e. omega arith), lt-leb 34 (t .base) (omega arith))
 
     module _ (b : t .base ≡ 33) where
       pub field-undeclared : Γ .fields (ρ (t .name)) ≡ none → field-of Γ at x (asTy ρ t) ≡ fail (named at 121 x)
@@ -119,7 +117,7 @@ module _ (Γ : Scope) (at : ℕ) (x : Name) (ρ : Naming) (t : Typ) where
 
 pub array-not : (m : Note) (ρ : Naming) (t : Typ) → t .levels ≡ 0 → array-type m (asTy ρ t) ≡ fail m
 unfolding array-type
-array-not m ρ t z = flat-case ρ t (λ u. array-type m u ≡ fail m) z (λ b. refl) (λ x. refl)
+array-not m ρ t z = flat-case ρ t (λ u. array-type m u ≡ fail m) z (λ b. refl) (λ x. refl) (λ n. refl)
 
 pub array-is : (m : Note) {k : ℕ} {e : Ty} (t : Ty) → t ≡ Array k e → array-type m t ≡ return (k, e)
 unfolding array-type
@@ -127,7 +125,7 @@ array-is m t h = rw h
 
 pub element-not : (ρ : Naming) (t : Typ) → t .levels ≡ 0 → element-of (asTy ρ t) ≡ none
 unfolding element-of
-element-not ρ t z = flat-case ρ t (λ u. element-of u ≡ none) z (λ b. refl) (λ x. refl)
+element-not ρ t z = flat-case ρ t (λ u. element-of u ≡ none) z (λ b. refl) (λ x. refl) (λ n. refl)
 
 pub element-is : {k : ℕ} {e : Ty} (t : Ty) → t ≡ Array k e → element-of t ≡ some e
 unfolding element-of

@@ -16,10 +16,10 @@ use Rattle.lines.specs.declared.Spot.{Spot}
 use Rattle.lines.proofs.Laws.{noted-none, noted-append}
 use Rattle.types.specs.Value.{Naming, asTy}
 use Rattle.types.specs.declared.Typ.{Typ}
-use Rattle.types.proofs.Values.{view-array}
+use Rattle.types.proofs.Values.{bottom-cases, view-array, view-flat}
 use Rattle.rules.specs.World.{Ports-here}
 use Rattle.rules.specs.Marks.{bit, Marked}
-use Rattle.rules.proofs.Rules.{is-basic, is-named}
+use Rattle.rules.proofs.Rules.{is-named}
 use Rattle.rules.proofs.PortLaws.{Left, left-start, left-first, left-next, left-none}
 
 module _ (Γ : Scope) (x : Name) (ρ : Naming) (t : Typ) where
@@ -29,7 +29,7 @@ module _ (Γ : Scope) (x : Name) (ρ : Naming) (t : Typ) where
 
   pub name-basic : t .levels ≡ 0 → (t .base ≡ 33 → ⊥) → resolved-name Γ x (asTy ρ t) ≡ x
   unfolding resolved-name
-  name-basic z h = rw (is-basic ρ t z h)
+  name-basic z h = rw (view-flat ρ t z) (bottom-cases (λ u. resolved-name Γ x u ≡ x) ρ (t .base) (t .name) (λ e. absurd (h e)) (λ e. refl) (λ f g. refl))
 
   pub name-named : t .levels ≡ 0 → t .base ≡ 33 → resolved-name Γ x (asTy ρ t) ≡ ρ (t .name)
   unfolding resolved-name

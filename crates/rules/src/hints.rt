@@ -6,7 +6,7 @@ use types::bottom_of;
 use types::element;
 ghost use mathlib.Core.Path.{_≡_};
 ghost use mathlib.Core.Option.{none, some};
-ghost use Prim.Native.Nat.{_-_, max};
+ghost use Prim.Native.Nat.{_-_, _<_, max};
 ghost use Rattle.lustre.specs.Types.{basic};
 ghost use Rattle.lustre.specs.Expr.{OpClass};
 ghost use Rattle.lustre.specs.Infer.{sub-hint, element-hint};
@@ -26,7 +26,7 @@ pub fn no_hint() -> Hint
 
 // The basic type of kind k.
 pub fn basic_hint(k: u8) -> Hint
-    requires { ⌜ (k ≡ 33 → ⊥) ⌝ }
+    requires { ⌜ k < 33 ⌝ }
     ensures { λ r. ⌜ ((ρ : Naming) → HintIs ρ (some (basic k)) 0 r) ⌝ }
 {
     let typ = bottom_of(k, 0);

@@ -117,7 +117,7 @@ fn refuse(out: &mut [u64], q: Spot, n: u64, code: u64, step: usize, name: u64) -
 
 // Whether the type t is a basic type of the kinds from low to high once resolved.
 fn resolves_within(kinds: &[u8], words: &[u64], scope: &[u64], t: Typ, low: u8, high: u8) -> bool
-    requires { ⌜ World (now kinds) (now words) (now scope) × (0 < low) ⌝ }
+    requires { ⌜ World (now kinds) (now words) (now scope) × (0 < low) × (high < 34) ⌝ }
     ensures { λ r. ⌜ ((W : World (now (kinds .entry)) (now (words .entry)) (now (scope .entry))) → r ≡ within low high (res (W .Γ) (asTy (W .text) t))) ⌝ }
 {
     let k = basic_kind(kinds, words, scope, t);

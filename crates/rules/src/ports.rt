@@ -4,6 +4,7 @@ use crate::Checked;
 use crate::refuse;
 use lines::Spot;
 use lines::put_line;
+use types::TUPLE;
 use types::Typ;
 use types::bottom_of;
 use types::records::read_type;
@@ -82,7 +83,7 @@ pub fn outputs_type(kinds: &[u8], words: &[u64], at: usize) -> Typ
         let t = r.typ;
         return t;
     }
-    bottom_of(34, 0)
+    bottom_of(TUPLE, c)
 }
 
 // A line where a function calls an operator, lib.rs 956: E0101.

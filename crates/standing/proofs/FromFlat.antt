@@ -12,7 +12,7 @@ use lib.ListN.{length, getD, drop, length-drop}
 use borrow.Author.Tests.{ltb-true}
 use Rattle.lustre.specs.Name.{Name, mem}
 use Rattle.lustre.specs.Records.{Rec, WordClass, no-word, a-name, a-count, a-length, a-truth, any-word, a-byte, word-class, word-classes, class-in, in-class, bad-record, spell-as, spell}
-use Rattle.lustre.specs.Types.{basic, Array, Named, levels}
+use Rattle.lustre.specs.Types.{basic, Array, Named, Tuple, levels}
 use Rattle.lustre.specs.Expr.{Literal, IterKind, size, sizes, sizesⁱ}
 use Rattle.lustre.specs.Expr.{bool, int, float, char, Map, Fold, const, var, unary, binary, ite, pre, arrow, call, field, index, tuple, array, struct, cast, when, merge, iterate, iterate-from, []ᵉ, _∷ᵉ_, []ⁱ, init}
 use Rattle.lustre.specs.Project.{NodeKind, Function, Operator, Imported, Port, Alias, Record, Enum, Equation, Project}
@@ -198,6 +198,7 @@ module _ (ρ : ℕ → Name) (ks ws : List ℕ) where
         let e = numbered (λ w x. refl) f in
         ((f .head, e, rw e at (ltb-true (word S at) 4_294_967_296 (f .in-range)), i .0), moved (omega arith) (i .1))
     walk-type (Named x) h at k l = let f = found l in ((f .head, named refl f), f .rest)
+    walk-type (Tuple n) h at k l = absurd h
 
     mutual
       unfolding flat Writable-expr Expr-at size word-class class-in word-classes mem spell-as

@@ -9,7 +9,7 @@ use lib.Dec.{eqb, leb, ltb}
 use lib.ListN.{length, getD}
 use borrow.Author.Tests.{ltb-false, eqb-true, eq-eqb, le-ltb, le-leb, lt-leb, ne-eqb}
 use Rattle.lustre.specs.Name.{Name, if_then_else_, mem}
-use Rattle.lustre.specs.Types.{Ty, basic, Array, Named, levels}
+use Rattle.lustre.specs.Types.{Ty, basic, Array, Named, Tuple, levels}
 use Rattle.lustre.specs.Expr.{Expr, Exprs, Inits, Literal, UnaryOp, BinOp, IterKind, OpClass, op-class, size}
 use Rattle.lustre.specs.Expr.{const, var, unary, binary, ite, pre, arrow, call, field, index, tuple, array, struct, cast, when, merge, iterate, iterate-from}
 use Rattle.lustre.specs.Expr.{bool, int, float, char, Not, Neg, And, Or, Xor, Implies, Eq, Neq, Lt, Le, Gt, Ge, Add, Sub, Mul, Div, Mod, BitAnd, BitOr, BitXor, Shl, Shr, Map, Fold, Logic, Equality, Order, Arithmetic, Bitwise}
@@ -366,6 +366,7 @@ module _ (S : Source) (at : ℕ) where
   type-shape (basic b) s = (b, s .0, basic-shape b (s .1))
   type-shape (Array n t) s = (32, s .0, record { element = t; is = ap (λ (m : ℕ). Array m t) (sym (s .1)); small = rw (s .1) (s .2); element-at = s .3 })
   type-shape (Named x) s = (33, s .0, record { x = x; name = s .1; holds = refl })
+  type-shape (Tuple n) s = absurd s
 
 module _ (S : Source) (t : Ty) (at : ℕ) (s : Type-at S t at) where
   type-inv : (k : ℕ) → getD (S .ks) at 0 ≡ k → Type-shape S t at k

@@ -9,7 +9,7 @@ use mathlib.Core.List.{List, [], _∷_, _++_}
 use lib.Dec.{eqb}
 use lib.ListN.{length, getD, length-append}
 use Rattle.lustre.specs.Name.{Name, mem}
-use Rattle.lustre.specs.Types.{Ty, basic, Array, Named, levels}
+use Rattle.lustre.specs.Types.{Ty, basic, Array, Named, Tuple, levels}
 use Rattle.lustre.specs.Expr.{Expr, Exprs, Inits, Literal, UnaryOp, BinOp, IterKind, size, sizes, sizesⁱ}
 use Rattle.lustre.specs.Expr.{const, var, unary, binary, ite, pre, arrow, call, field, index, tuple, array, struct, cast, when, merge, iterate, iterate-from, []ᵉ, _∷ᵉ_, []ⁱ, init}
 use Rattle.lustre.specs.Expr.{bool, int, float, char, Not, Neg, And, Or, Xor, Implies, Eq, Neq, Lt, Le, Gt, Ge, Add, Sub, Mul, Div, Mod, BitAnd, BitOr, BitXor, Shl, Shr, Map, Fold}
@@ -63,6 +63,7 @@ abbrev pub in-type : Ty → List Part
 in-type (basic b) = []
 in-type (Array n t) = of-type t ∷ []
 in-type (Named x) = []
+in-type (Tuple n) = []
 
 abbrev pub in-expr : Expr → List Part
 in-expr (const l w) = []
@@ -119,6 +120,7 @@ unfolding sizes-of size levels
 opened-size (of-type (basic b)) = refl
 opened-size (of-type (Array n t)) = omega arith
 opened-size (of-type (Named x)) = refl
+opened-size (of-type (Tuple n)) = refl
 opened-size (of-list es) = omega (arith, items-size es)
 opened-size (of-values vs) = omega (arith, values-size vs)
 opened-size (of-value x e) = omega arith
@@ -254,6 +256,7 @@ module _ (S : Source) where
   part-opens (of-type (basic b)) at s = opens (s .0) (basic-owes b _ (s .1)) tt
   part-opens (of-type (Array n t)) at s = opens (s .0) refl (s .3, tt)
   part-opens (of-type (Named x)) at s = opens (s .0) refl tt
+  part-opens (of-type (Tuple n)) at s = absurd s
   part-opens (of-list es) at s = opens (s .0) (s .1 ∙ items-count es) (items-at es (at + 1) (s .2))
   part-opens (of-values vs) at s = opens (s .0) (s .1 ∙ values-count vs) (values-at vs (at + 1) (s .2))
   part-opens (of-value x e) at s = opens (s .0) refl (s .2, tt)

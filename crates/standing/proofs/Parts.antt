@@ -7,7 +7,7 @@ use mathlib.Core.List.{List}
 use lib.ListN.{length, getD, take, drop, length-drop}
 use lib.Seq.{getD-drop, take-all}
 use Rattle.lustre.specs.Name.{Name}
-use Rattle.lustre.specs.Types.{Ty, basic, Array, Named, levels}
+use Rattle.lustre.specs.Types.{Ty, basic, Array, Named, Tuple, levels}
 use Rattle.lustre.specs.Expr.{Expr, size}
 use Rattle.lustre.specs.Expr.{const, var, unary, binary, ite, pre, arrow, call, field, index, tuple, array, struct, cast, when, merge, iterate, iterate-from, []ᵉ, _∷ᵉ_, []ⁱ, init}
 use Rattle.standing.specs.Standing.{Source, source, word, Rec-at, Name-at, Type-at, Expr-at, Exprs-at, Inits-at}
@@ -31,6 +31,7 @@ module _ {S T : Source} {x y : ℕ} (c : Carries S T x y) where
   type-carried (basic b) m p q s = (c .head m p q (s .0), s .1)
   type-carried (Array n t) m p q s = (c .head m p q (s .0), c .words m p q ∙ s .1, s .2, type-carried t (m + 1) (p + 1) (omega arith) (s .3))
   type-carried (Named n) m p q s = (c .head m p q (s .0), name-carried m p q (s .1))
+  type-carried (Tuple n) m p q s = absurd s
 
   mutual
     unfolding Expr-at

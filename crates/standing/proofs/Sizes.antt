@@ -8,7 +8,7 @@ use mathlib.Core.List.{List, [], _∷_}
 use mathlib.Core.Option.{some}
 use lib.ListN.{length, take, getElem?}
 use Rattle.lustre.specs.Name.{Name}
-use Rattle.lustre.specs.Types.{Ty, basic, Array, Named, levels}
+use Rattle.lustre.specs.Types.{Ty, basic, Array, Named, Tuple, levels}
 use Rattle.lustre.specs.Expr.{Expr, Exprs, Inits, size, sizes, sizesⁱ}
 use Rattle.lustre.specs.Expr.{const, var, unary, binary, ite, pre, arrow, call, field, index, tuple, array, struct, cast, when, merge, iterate, iterate-from, []ᵉ, _∷ᵉ_, []ⁱ, init}
 use Rattle.lustre.specs.Project.{Decl, Alias, Record, Enum}
@@ -23,6 +23,7 @@ unfolding levels
 levels-pos (basic b) = omega arith
 levels-pos (Array n t) = omega arith
 levels-pos (Named x) = omega arith
+levels-pos (Tuple n) = omega arith
 
 pub size-pos : (e : Expr) → 1 ≤ size e
 unfolding size
@@ -81,6 +82,7 @@ module _ (S : Source) where
   type-end (basic b) at s = omega (arith, s .0 .in-kinds)
   type-end (Array n t) at s = omega (arith, type-end t (at + 1) (s .3))
   type-end (Named x) at s = omega (arith, s .0 .in-kinds)
+  type-end (Tuple n) at s = absurd s
 
   mutual
     unfolding Expr-at size

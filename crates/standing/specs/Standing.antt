@@ -8,7 +8,7 @@ use mathlib.Core.List.{List, [], _∷_}
 use lib.Dec.{eqb}
 use lib.ListN.{length, getD}
 use Rattle.lustre.specs.Name.{Name, mem}
-use Rattle.lustre.specs.Types.{Ty, basic, Array, Named, levels}
+use Rattle.lustre.specs.Types.{Ty, basic, Array, Named, Tuple, levels}
 use Rattle.lustre.specs.Expr.{Expr, Exprs, Inits, const, var, unary, binary, ite, pre, arrow, call, field, index, tuple, array, struct, cast, when, merge, iterate, iterate-from, []ᵉ, _∷ᵉ_, []ⁱ, init, size}
 use Rattle.lustre.specs.Project.{Port, Decl, Alias, Record, Enum, Constant, Equation, Node, Package, Project}
 use Rattle.lustre.specs.Grammar.{basic-kinds, literal-kind, unary-kind, op-kind, when-kind, iterate-kind, iterate-from-kind, node-kind, count, countⁱ}
@@ -40,6 +40,7 @@ unfoldable pub Type-at : Source → Ty → ℕ → Type 0
 Type-at S (basic b) at = Rec-at S at b × (mem eqb b basic-kinds ≡ true)
 Type-at S (Array n t) at = Rec-at S at 32 × (word S at ≡ n) × (n < 4_294_967_296) × Type-at S t (at + 1)
 Type-at S (Named x) at = Rec-at S at 33 × Name-at S at x
+Type-at S (Tuple n) at = ⊥
 
 unfoldable mutual
   pub Expr-at : Source → Expr → ℕ → Type 0

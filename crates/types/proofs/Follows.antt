@@ -11,7 +11,7 @@ use lib.Dec.{eqb}
 use lib.ListN.{getD, drop}
 use borrow.Author.Tests.{eq-eqb, ne-eqb}
 use Rattle.lustre.specs.Name.{if_then_else_}
-use Rattle.lustre.specs.Types.{Ty, basic, Array, Named}
+use Rattle.lustre.specs.Types.{Ty, basic, Array, Named, Tuple}
 use Rattle.lustre.specs.Resolve.{Aliases, array-of, try-resolve, or-itself, resolve}
 use Rattle.types.specs.Value.{Naming, bottom, up, asTy}
 use Rattle.types.specs.Place.{arraysIn, tyAt, TypeAt, Last}
@@ -19,7 +19,7 @@ use Rattle.types.specs.Scope.{slot, Table, arrays, inside, shape, shaped
 use Rattle.types.specs.declared.Typ.{Typ}
 use Rattle.types.specs.declared.aliases.Followed.{Followed}
 use Rattle.types.proofs.Truths.{never}
-use Rattle.types.proofs.Values.{bottom-basic, bottom-name, view-flat, view-array}
+use Rattle.types.proofs.Values.{bottom-basic, bottom-name, bottom-cases, view-flat, view-array}
 use Rattle.types.proofs.Places.{type-array, type-bottom, arrays-array, arrays-bottom, type-next}
 use Rattle.types.proofs.Seen.{by-depth, try-depth, resolve-depth}
 use Rattle.types.proofs.Tries.{wrapped, type-around, no-levels, basic-stays, name-stays, name-leads, basic-resolved}
@@ -55,12 +55,8 @@ shape-array n none = refl
 shape-array n (some t) = refl
 
 shape-bottom : (ρ : Naming) (b n : ℕ) → shape (some (bottom ρ b n)) ≡ some (0, bottom ρ b n)
-unfolding bottom shape arrays inside
-shape-bottom ρ b n = go (eqb b 33)
-  where
-    go : (p : Bool) → shape (some (if_then_else_ p (Named (ρ n)) (basic b))) ≡ some (0, if_then_else_ p (Named (ρ n)) (basic b))
-    go true = refl
-    go false = refl
+unfolding shape arrays inside
+shape-bottom ρ b n = bottom-cases (λ t. shape (some t) ≡ some (0, t)) ρ b n (λ e. refl) (λ e. refl) (λ h g. refl)
 
 module _ (al : Aliases) (ρ : Naming) (ks ws : List ℕ) where
   -- what the type at a place resolves to has its arrays around what its last record does
@@ -163,6 +159,7 @@ shape-kind : (t : Ty) → kind-of t ≡ (if eqb (arrays t) 0 then kind-of (insid
 unfolding kind-of arrays inside
 shape-kind (basic k) = refl
 shape-kind (Named x) = refl
+shape-kind (Tuple n) = refl
 shape-kind (Array n t) = rw (ne-eqb (arrays t + 1) 0 (λ e. omega (arith, e)))
 
 kind-name : (ρ : Naming) (b n : ℕ) → b ≡ 33 → kind-of (bottom ρ b n) ≡ 0
@@ -171,7 +168,7 @@ kind-name ρ b n e = rw (bottom-name ρ b n e)
 
 pub kind-basic : (ρ : Naming) (b n : ℕ) → (b ≡ 33 → ⊥) → kind-of (bottom ρ b n) ≡ b
 unfolding kind-of
-kind-basic ρ b n e = rw (bottom-basic ρ b n e)
+kind-basic ρ b n h = bottom-cases (λ t. kind-of t ≡ b) ρ b n (λ e. absurd (h e)) (λ e. sym e) (λ f g. refl)
 
 -- the two of a shape, 0 and basic 0 where there is none
 unfoldable counted : Option (ℕ × Ty) → ℕ
@@ -236,7 +233,7 @@ module _ {ks ws sc : List ℕ} (t : Typ) where
 
 -- ---- `same_basic`
 
-pub basics-same : (a b : Typ) → a .levels ≡ 0 → b .levels ≡ 0 → (a .base ≡ 33 → ⊥) → a .base ≡ b .base → (ρ : Naming) → asTy ρ a ≡ asTy ρ b
+pub basics-same : (a b : Typ) → a .levels ≡ 0 → b .levels ≡ 0 → a .base < 33 → a .base ≡ b .base → (ρ : Naming) → asTy ρ a ≡ asTy ρ b
 basics-same a b p q h e ρ =
-    view-flat ρ a p ∙ bottom-basic ρ (a .base) (a .name) h ∙ ap basic e
-    ∙ sym (view-flat ρ b q ∙ bottom-basic ρ (b .base) (b .name) (λ y. h (e ∙ y)))
+    view-flat ρ a p ∙ bottom-basic ρ (a .base) (a .name) (λ y. omega arith) (λ y. omega arith) ∙ ap basic e
+    ∙ sym (view-flat ρ b q ∙ bottom-basic ρ (b .base) (b .name) (λ y. omega arith) (λ y. omega arith))

@@ -16,7 +16,7 @@ use mir.Val.{toZ, ofZ, SFits, Fits, sel}
 use mir.ValLaws.{toZ-ofZ, toZ-pos, toZ-fits, ofZ-toZ}
 use borrow.Author.Tests.{eq-eqb, ne-eqb, eqb-false, le-leb, lt-leb, le-ltb, lt-ltb}
 use Rattle.lustre.specs.Name.{Name, if_then_else_}
-use Rattle.lustre.specs.Types.{Ty, basic, Array, Named, within, is-float, signed, range-of}
+use Rattle.lustre.specs.Types.{Ty, basic, Array, Named, Tuple, within, is-float, signed, range-of}
 use Rattle.lustre.specs.Expr.{Literal, bool, int, float, char}
 use Rattle.lustre.specs.Grammar.{literal-kind}
 use Rattle.lustre.specs.Resolve.{Aliases, resolve}
@@ -121,32 +121,34 @@ no-range k a b c d e f g h = rw (ne-eqb k 21 a, ne-eqb k 22 b, ne-eqb k 23 c, ne
 
 -- ---- the type of a literal under a hint
 
--- a kind that is neither 0 nor a name's
-pub kind-is : (k : ℕ) → (k ≡ 0 → ⊥) → (k ≡ 33 → ⊥) → KindIs (some (basic k)) k
+-- a kind that is neither 0 nor a name's nor a tuple's
+pub kind-is : (k : ℕ) → (k ≡ 0 → ⊥) → (k ≡ 33 → ⊥) → (k ≡ 34 → ⊥) → KindIs (some (basic k)) k
 unfolding basic-of
-kind-is k z n = record { is = rw (ne-eqb k 0 z); no-name = n }
+kind-is k z n m = record { is = rw (ne-eqb k 0 z); no-name = n; no-tuple = m }
 
 module _ (v : ℤ) where
   pub in-int32 : fits v (basic 23) ≡ true → KindIs (int32-type v) 23
   unfolding int32-type basic-of
-  in-int32 e = record { is = rw e; no-name = eqb-false 23 33 refl }
+  in-int32 e = record { is = rw e; no-name = eqb-false 23 33 refl; no-tuple = eqb-false 23 34 refl }
 
   pub past-int32 : fits v (basic 23) ≡ false → KindIs (int32-type v) 0
   unfolding int32-type basic-of
-  past-int32 e = record { is = rw e; no-name = eqb-false 0 33 refl }
+  past-int32 e = record { is = rw e; no-name = eqb-false 0 33 refl; no-tuple = eqb-false 0 34 refl }
 
 -- f gives the resolved hint if that is in a class P, which holds basic types alone, else d
 pub record Picks (P : Ty → Bool) (d : Option Ty) (f : Aliases → Option Ty → Option Ty) : Type 0 where
   pub arrays : (n : ℕ) (t : Ty) → P (Array n t) ≡ false
   pub names : (x : Name) → P (Named x) ≡ false
+  pub tuples : (n : ℕ) → P (Tuple n) ≡ false
   pub zero : P (basic 0) ≡ false
   pub name : P (basic 33) ≡ false
+  pub tuple : P (basic 34) ≡ false
   pub bare : (al : Aliases) → f al none ≡ d
   pub under : (al : Aliases) (h : Ty) → f al (some h) ≡ (if P (resolve al h) then some (resolve al h) else d)
 
 pub picks-integer : (v : ℤ) → Picks (fits v) (int32-type v) (λ al. integer-type al v)
 unfolding fits integer-type in-some-range range-of
-picks-integer v = record { arrays = λ n t. refl; names = λ x. refl; zero = refl; name = refl; bare = λ al. refl; under = λ al h. refl }
+picks-integer v = record { arrays = λ n t. refl; names = λ x. refl; tuples = λ n. refl; zero = refl; name = refl; tuple = refl; bare = λ al. refl; under = λ al h. refl }
 
 some-if : (b : Bool) (t u : Ty) → some (if b then t else u) ≡ (if b then some t else some u)
 some-if true t u = refl
@@ -157,8 +159,10 @@ unfolding within float-type
 picks-float = record {
   arrays = λ n t. refl;
   names = λ x. refl;
+  tuples = λ n. refl;
   zero = refl;
   name = refl;
+  tuple = refl;
   bare = λ al. refl;
   under = λ al h. some-if (is-float (resolve al h)) (resolve al h) (basic 30);
 }
@@ -170,12 +174,14 @@ module _ {P : Ty → Bool} {d : Option Ty} {f : Aliases → Option Ty → Option
   by-kind (basic k) e = refl
   by-kind (Array n t) e = absurd (never (sym (p .zero) ∙ e))
   by-kind (Named x) e = absurd (never (sym (p .zero) ∙ e))
+  by-kind (Tuple n) e = absurd (never (sym (p .tuple) ∙ e))
 
   not-kind : (t : Ty) → P (basic (kind-of t)) ≡ false → P t ≡ false
   unfolding kind-of
   not-kind (basic k) e = e
   not-kind (Array n t) e = p .arrays n t
   not-kind (Named x) e = p .names x
+  not-kind (Tuple n) e = p .tuples n
 
   -- a kind in the class is not this one
   in-class : {k c : ℕ} → P (basic k) ≡ true → P (basic c) ≡ false → k ≡ c → ⊥
@@ -188,7 +194,7 @@ module _ {P : Ty → Bool} {d : Option Ty} {f : Aliases → Option Ty → Option
     type = λ ρ al T.
         let m : P (basic (kind-of (resolve al (asTy ρ (h .typ))))) ≡ true = ap (λ (x : ℕ). P (basic x)) (sym (q .is ρ al T)) ∙ i in
         let w : resolve al (asTy ρ (h .typ)) ≡ basic k = by-kind p _ m ∙ ap basic (sym (q .is ρ al T)) in
-        rw (g, p .under al (asTy ρ (h .typ)), w, i) (kind-is k (in-class p i (p .zero)) (in-class p i (p .name)));
+        rw (g, p .under al (asTy ρ (h .typ)), w, i) (kind-is k (in-class p i (p .zero)) (in-class p i (p .name)) (in-class p i (p .tuple)));
   }
 
   pub leaves-hint : {k r : ℕ} → h .given ≡ true → KindOf ks ws sc (h .typ) k → P (basic k) ≡ false → KindIs d r → Hinted ks ws sc h f r
@@ -202,8 +208,8 @@ module _ {P : Ty → Bool} {d : Option Ty} {f : Aliases → Option Ty → Option
   no-hint g b = record { type = λ ρ al T. rw (g, p .bare al) b }
 
 -- a literal whose type is the basic type of kind k under every hint
-pub any-hint : {ks ws sc : List ℕ} {h : Hint} (k : ℕ) → (k ≡ 0 → ⊥) → (k ≡ 33 → ⊥) → Hinted ks ws sc h (λ al o. some (basic k)) k
-any-hint k z n = record { type = λ ρ al T. kind-is k z n }
+pub any-hint : {ks ws sc : List ℕ} {h : Hint} (k : ℕ) → (k ≡ 0 → ⊥) → (k ≡ 33 → ⊥) → (k ≡ 34 → ⊥) → Hinted ks ws sc h (λ al o. some (basic k)) k
+any-hint k z n m = record { type = λ ρ al T. kind-is k z n m }
 
 -- the literal of a record kind
 unfoldable pub literalOf : ℕ → Literal

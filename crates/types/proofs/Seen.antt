@@ -6,7 +6,7 @@ use mathlib.Core.List.{List, [], _∷_}
 use mathlib.Core.Option.{Option, none, some}
 use native.Mathlib.Omega.{arith}
 use Rattle.lustre.specs.Name.{Name, mem, _is_, _among_}
-use Rattle.lustre.specs.Types.{Ty, basic, Array, Named}
+use Rattle.lustre.specs.Types.{Ty, basic, Array, Named, Tuple}
 use Rattle.lustre.specs.Resolve.{Aliases, array-of, follow-alias, try-resolve, or-itself, resolve}
 use Rattle.types.proofs.Truths.{never}
 use Rattle.demands.proofs.Orders.{is-test}
@@ -15,6 +15,7 @@ use Rattle.demands.proofs.Orders.{is-test}
 unfoldable pub by-depth : Aliases → ℕ → Ty → Option Ty
 by-depth al zero t = none
 by-depth al (suc f) (basic k) = some (basic k)
+by-depth al (suc f) (Tuple n) = some (Tuple n)
 by-depth al (suc f) (Array n t) = array-of n (by-depth al f t)
 by-depth al (suc f) (Named x) = follow-alias x (by-depth al f) (al x)
 
@@ -33,6 +34,7 @@ module _ (al : Aliases) where
   unfolding by-depth follow-alias
   fewer-levels zero t e = refl
   fewer-levels (suc f) (basic k) e = e
+  fewer-levels (suc f) (Tuple n) e = e
   fewer-levels (suc f) (Array n t) e = array-none n (fewer-levels f t (none-array n (by-depth al (suc f) t) e))
   fewer-levels (suc f) (Named x) e = go (fewer-levels f) (al x) e
     where
@@ -55,6 +57,7 @@ module _ (al : Aliases) where
   unfolding try-resolve by-depth follow-alias mem
   seen-depth zero seen t h = refl
   seen-depth (suc f) seen (basic k) h = refl
+  seen-depth (suc f) seen (Tuple n) h = refl
   seen-depth (suc f) seen (Array n t) h =
       ap (array-of n) (seen-depth f seen t (λ v m g e. fewer-levels (suc g) (Named v) (h v m (suc g) (array-none n e))))
   seen-depth (suc f) seen (Named x) h = go (seen-depth f (x ∷ seen)) (al x) refl (x among seen) refl

@@ -8,14 +8,14 @@ use mathlib.Core.Option.{Option, none, some}
 use native.Mathlib.Omega.{arith}
 use lib.ListN.{getD}
 use borrow.Author.Tests.{eq-eqb, ne-eqb}
-use Rattle.lustre.specs.Types.{Ty, Named}
+use Rattle.lustre.specs.Types.{Ty, Named, Tuple}
 use Rattle.lustre.specs.Resolve.{Aliases, array-of, follow-alias, try-resolve, or-itself, resolve}
 use Rattle.types.specs.Value.{Naming, bottom, up, asTy, maybe, Known, Around}
 use Rattle.types.specs.Place.{tyAt, Read}
 use Rattle.types.specs.Scope.{slot, target, Table, Tries, Resolves}
 use Rattle.types.specs.declared.Typ.{Typ}
 use Rattle.types.proofs.Truths.{never}
-use Rattle.types.proofs.Values.{bottom-basic, bottom-name}
+use Rattle.types.proofs.Values.{bottom-cases, bottom-name}
 use Rattle.types.proofs.Seen.{by-depth, try-depth, resolve-depth}
 
 -- the first k lengths of l around a type that there may be
@@ -67,7 +67,7 @@ module _ (ks ws sc : List ℕ) (ρ : Naming) (al : Aliases) (T : Table ρ al ks 
   -- it stays where it is no name, or a name without alias
   pub basic-stays : (b ≡ 33 → ⊥) → (f : ℕ) → by-depth al (suc f) (bottom ρ b n) ≡ some (bottom ρ b n)
   unfolding by-depth
-  basic-stays h f = rw (bottom-basic ρ b n h)
+  basic-stays h f = bottom-cases (λ t. by-depth al (suc f) t ≡ some t) ρ b n (λ e. absurd (h e)) (λ e. refl) (λ x y. refl)
 
   pub name-stays : b ≡ 33 → slot sc n ≡ 0 → (f : ℕ) → by-depth al (suc f) (bottom ρ b n) ≡ some (bottom ρ b n)
   unfolding by-depth follow-alias target

@@ -3,6 +3,7 @@ use Prim.Native.Nat.{ℕ, zero, suc, _+_, _≤_, _<_, _-_}
 use mathlib.Core.Path.{_≡_, refl, ap, ap₂, sym, _∙_}
 use mathlib.Core.Bool.{Bool, true, false, _&&_}
 use mathlib.Core.List.{List}
+use mathlib.Core.Option.{none, some}
 use native.Mathlib.Omega.{arith}
 use native.Mathlib.Numerals.{add-one}
 use native.Mathlib.Nat.{pos-of-ne-zero}
@@ -11,10 +12,10 @@ use lib.ListN.{length, getD, set}
 use lib.Seq.{getD-set-same, getD-set-other}
 use borrow.Author.Tests.{eq-eqb, ne-eqb, eqb-true, eqb-false}
 use Rattle.lustre.specs.Name.{if_then_else_, _is_}
-use Rattle.lustre.specs.Types.{Ty, basic, Array, Named, same-type, within, levels}
+use Rattle.lustre.specs.Types.{Ty, basic, Array, Named, Tuple, same-type, within, members, levels}
 use Rattle.types.specs.Value.{Naming, Injective, bottom, up, asTy}
 use Rattle.types.specs.declared.Typ.{Typ}
-use Rattle.types.proofs.Truths.{never, not-so, and-both}
+use Rattle.types.proofs.Truths.{never, not-so, and-both, outside}
 use Rattle.demands.proofs.Orders.{is-test}
 
 -- ---- one length more, one length less
@@ -45,13 +46,27 @@ up-around l t u m i s h e =
 
 -- ---- the views of a type by value
 
-pub bottom-basic : (ρ : Naming) (k n : ℕ) → (k ≡ 33 → ⊥) → bottom ρ k n ≡ basic k
+pub bottom-basic : (ρ : Naming) (k n : ℕ) → (k ≡ 33 → ⊥) → (k ≡ 34 → ⊥) → bottom ρ k n ≡ basic k
 unfolding bottom
-bottom-basic ρ k n h = rw (ne-eqb k 33 h)
+bottom-basic ρ k n h g = rw (ne-eqb k 33 h, ne-eqb k 34 g)
 
 pub bottom-name : (ρ : Naming) (k n : ℕ) → k ≡ 33 → bottom ρ k n ≡ Named (ρ n)
 unfolding bottom
 bottom-name ρ k n h = rw (eq-eqb k 33 h)
+
+pub bottom-tuple : (ρ : Naming) (k n : ℕ) → k ≡ 34 → bottom ρ k n ≡ Tuple n
+unfolding bottom
+bottom-tuple ρ k n h = rw h
+
+-- what holds of a name, a tuple and a basic type holds of a bottom
+pub bottom-cases : (P : Ty → Type 0) (ρ : Naming) (k n : ℕ) → (k ≡ 33 → P (Named (ρ n))) → (k ≡ 34 → P (Tuple n)) → ((k ≡ 33 → ⊥) → (k ≡ 34 → ⊥) → P (basic k)) → P (bottom ρ k n)
+unfolding bottom
+bottom-cases P ρ k n x y z = go (eqb k 33) refl (eqb k 34) refl
+  where
+    go : (p : Bool) → eqb k 33 ≡ p → (q : Bool) → eqb k 34 ≡ q → P (if_then_else_ p (Named (ρ n)) (if_then_else_ q (Tuple n) (basic k)))
+    go true e q f = x (eqb-true k 33 e)
+    go false e true f = y (eqb-true k 34 f)
+    go false e false f = z (eqb-false k 33 e) (eqb-false k 34 f)
 
 module _ (ρ : Naming) (t : Typ) where
   pub view-flat : t .levels ≡ 0 → asTy ρ t ≡ bottom ρ (t .base) (t .name)
@@ -65,11 +80,7 @@ module _ (ρ : Naming) (t : Typ) where
 -- the levels of the tree are one more than the lengths
 levels-up : (ρ : Naming) (l : List ℕ) (k a n : ℕ) → levels (up l k (bottom ρ a n)) ≡ k + 1
 unfolding levels up
-levels-up ρ l zero a n = go (eqb a 33) refl
-  where
-    go : (b : Bool) → eqb a 33 ≡ b → levels (bottom ρ a n) ≡ 1
-    go true e = rw (bottom-name ρ a n (eqb-true a 33 e))
-    go false e = rw (bottom-basic ρ a n (eqb-false a 33 e))
+levels-up ρ l zero a n = bottom-cases (λ t. levels t ≡ 1) ρ a n (λ e. refl) (λ e. refl) (λ h g. refl)
 levels-up ρ l (suc k) a n = omega (arith, levels-up ρ l k a n)
 
 pub levels-as : (ρ : Naming) (t : Typ) → levels (asTy ρ t) ≡ t .levels + 1
@@ -83,13 +94,22 @@ module _ (low high : ℕ) (ρ : Naming) (t : Typ) where
   unfolding within
   class-array h = rw (view-array ρ t h)
 
-  pub class-flat : t .levels ≡ 0 → (leb low 33 && leb 33 high) ≡ false → within low high (asTy ρ t) ≡ (leb low (t .base) && leb (t .base) high)
+  pub class-flat : t .levels ≡ 0 → high < 33 → within low high (asTy ρ t) ≡ (leb low (t .base) && leb (t .base) high)
   unfolding within
-  class-flat z h = rw (view-flat ρ t z) (go (eqb (t .base) 33) refl)
-    where
-      go : (b : Bool) → eqb (t .base) 33 ≡ b → within low high (bottom ρ (t .base) (t .name)) ≡ (leb low (t .base) && leb (t .base) high)
-      go true e = rw (bottom-name ρ (t .base) (t .name) (eqb-true (t .base) 33 e), eqb-true (t .base) 33 e) (sym h)
-      go false e = rw (bottom-basic ρ (t .base) (t .name) (eqb-false (t .base) 33 e))
+  class-flat z h =
+      rw (view-flat ρ t z)
+      (bottom-cases (λ s. within low high s ≡ (leb low (t .base) && leb (t .base) high)) ρ (t .base) (t .name) (λ e. rw e (sym (outside low 33 high h))) (λ e. rw e (sym (outside low 34 high (omega arith)))) (λ x y. refl))
+
+-- ---- tuples
+
+module _ (ρ : Naming) (t : Typ) where
+  pub members-array : (t .levels ≡ 0 → ⊥) → members (asTy ρ t) ≡ none
+  unfolding members
+  members-array h = rw (view-array ρ t h)
+
+  pub members-flat : t .levels ≡ 0 → members (asTy ρ t) ≡ (if eqb (t .base) 34 then some (t .name) else none)
+  unfolding members
+  members-flat z = rw (view-flat ρ t z) (bottom-cases (λ s. members s ≡ (if eqb (t .base) 34 then some (t .name) else none)) ρ (t .base) (t .name) (λ e. rw e) (λ e. rw e) (λ h g. rw (ne-eqb (t .base) 34 g)))
 
 -- ---- equality
 
@@ -102,36 +122,46 @@ unfolding same-type
 type-self (basic b) = eq-eqb b b refl
 type-self (Array n t) = rw (eq-eqb n n refl) (type-self t)
 type-self (Named x) = is-test .self x
+type-self (Tuple n) = eq-eqb n n refl
 
 pub type-same : (s t : Ty) → same-type s t ≡ true → s ≡ t
 unfolding same-type
 type-same (basic a) (basic b) e = ap basic (eqb-true a b e)
 type-same (basic a) (Array m t) e = absurd (never e)
 type-same (basic a) (Named y) e = absurd (never e)
+type-same (basic a) (Tuple j) e = absurd (never e)
 type-same (Array n s) (basic b) e = absurd (never e)
 type-same (Array n s) (Array m t) e =
     let q = and-both (eqb n m) (same-type s t) e in
     ap₂ Array (eqb-true n m (q .0)) (type-same s t (q .1))
 type-same (Array n s) (Named y) e = absurd (never e)
+type-same (Array n s) (Tuple j) e = absurd (never e)
 type-same (Named x) (basic b) e = absurd (never e)
 type-same (Named x) (Array m t) e = absurd (never e)
 type-same (Named x) (Named y) e = ap Named (is-test .same x y e)
+type-same (Named x) (Tuple j) e = absurd (never e)
+type-same (Tuple i) (basic b) e = absurd (never e)
+type-same (Tuple i) (Array m t) e = absurd (never e)
+type-same (Tuple i) (Named y) e = absurd (never e)
+type-same (Tuple i) (Tuple j) e = ap Tuple (eqb-true i j e)
 
 -- the bottoms
 module _ (ρ : Naming) (a b m n : ℕ) where
   pub bases-differ : (a ≡ b → ⊥) → same-type (bottom ρ a m) (bottom ρ b n) ≡ false
-  unfolding same-type bottom
-  bases-differ h = go (eqb a 33) (eqb b 33) refl refl
-    where
-      go : (p q : Bool) → eqb a 33 ≡ p → eqb b 33 ≡ q → same-type (if_then_else_ p (Named (ρ m)) (basic a)) (if_then_else_ q (Named (ρ n)) (basic b)) ≡ false
-      go true true e f = absurd (h (eqb-true a 33 e ∙ sym (eqb-true b 33 f)))
-      go true false e f = refl
-      go false true e f = refl
-      go false false e f = ne-eqb a b h
+  unfolding same-type
+  bases-differ h =
+      bottom-cases (λ s. same-type s (bottom ρ b n) ≡ false) ρ a m
+      (λ e. bottom-cases (λ t. same-type (Named (ρ m)) t ≡ false) ρ b n (λ f. absurd (h (e ∙ sym f))) (λ f. refl) (λ f g. refl))
+      (λ e. bottom-cases (λ t. same-type (Tuple m) t ≡ false) ρ b n (λ f. refl) (λ f. absurd (h (e ∙ sym f))) (λ f g. refl))
+      (λ e d. bottom-cases (λ t. same-type (basic a) t ≡ false) ρ b n (λ f. refl) (λ f. refl) (λ f g. ne-eqb a b h))
 
-  pub bases-same : a ≡ b → (a ≡ 33 → ⊥) → same-type (bottom ρ a m) (bottom ρ b n) ≡ true
+  pub bases-same : a ≡ b → (a ≡ 33 → ⊥) → (a ≡ 34 → ⊥) → same-type (bottom ρ a m) (bottom ρ b n) ≡ true
   unfolding same-type bottom
-  bases-same e h = rw (← e, ne-eqb a 33 h) (eq-eqb a a refl)
+  bases-same e h g = rw (← e, ne-eqb a 33 h, ne-eqb a 34 g) (eq-eqb a a refl)
+
+  pub tuples-same : a ≡ 34 → a ≡ b → same-type (bottom ρ a m) (bottom ρ b n) ≡ eqb m n
+  unfolding same-type bottom
+  tuples-same e f = rw (← f, e)
 
   pub names-same : Injective ρ → a ≡ 33 → a ≡ b → same-type (bottom ρ a m) (bottom ρ b n) ≡ eqb m n
   unfolding same-type bottom
@@ -144,20 +174,12 @@ module _ (ρ : Naming) (a b m n : ℕ) where
 -- an array is no bottom
 module _ (ρ : Naming) (a m l : ℕ) (t : Ty) where
   bottom-array : same-type (bottom ρ a m) (Array l t) ≡ false
-  unfolding same-type bottom
-  bottom-array = go (eqb a 33)
-    where
-      go : (p : Bool) → same-type (if_then_else_ p (Named (ρ m)) (basic a)) (Array l t) ≡ false
-      go true = refl
-      go false = refl
+  unfolding same-type
+  bottom-array = bottom-cases (λ s. same-type s (Array l t) ≡ false) ρ a m (λ e. refl) (λ e. refl) (λ h g. refl)
 
   array-bottom : same-type (Array l t) (bottom ρ a m) ≡ false
-  unfolding same-type bottom
-  array-bottom = go (eqb a 33)
-    where
-      go : (p : Bool) → same-type (Array l t) (if_then_else_ p (Named (ρ m)) (basic a)) ≡ false
-      go true = refl
-      go false = refl
+  unfolding same-type
+  array-bottom = bottom-cases (λ s. same-type (Array l t) s ≡ false) ρ a m (λ e. refl) (λ e. refl) (λ h g. refl)
 
 -- the lengths
 module _ (ρ : Naming) (l l′ : List ℕ) (a b m n : ℕ) where

@@ -42,6 +42,7 @@ basic-of k = if eqb k 0 then none else some (basic k)
 pub record KindIs (o : Option Ty) (r : ℕ) : Type 0 where
   pub is : basic-of r ≡ o
   pub no-name : r ≡ 33 → ⊥
+  pub no-tuple : r ≡ 34 → ⊥
 
 -- what the functions on literals answer: the kind of what f gives under the hint h
 pub record Hinted (ks ws sc : List ℕ) (h : Hint) (f : Aliases → Option Ty → Option Ty) (r : ℕ) : Type 0 where

@@ -9,7 +9,7 @@ use mathlib.Core.Option.{Option, none, some}
 use lib.Dec.{eqb, ltb}
 use lib.ListN.{length, getD}
 use Rattle.lustre.specs.Name.{if_then_else_}
-use Rattle.lustre.specs.Types.{Ty, basic, Array, Named}
+use Rattle.lustre.specs.Types.{Ty, basic, Array, Named, Tuple}
 use Rattle.lustre.specs.Resolve.{Aliases, try-resolve, resolve, compatible}
 use Rattle.types.specs.Value.{Naming, Injective, bottom, asTy, maybe, Known}
 use Rattle.types.specs.Place.{TypeAt, tyAt}
@@ -50,11 +50,13 @@ unfoldable pub arrays : Ty → ℕ
 arrays (basic k) = 0
 arrays (Array n t) = arrays t + 1
 arrays (Named x) = 0
+arrays (Tuple n) = 0
 
 unfoldable pub inside : Ty → Ty
 inside (basic k) = basic k
 inside (Array n t) = inside t
 inside (Named x) = Named x
+inside (Tuple n) = Tuple n
 
 -- both of a type that there may be
 unfoldable pub shape : Option Ty → Option (ℕ × Ty)
@@ -69,11 +71,12 @@ shaped ρ b k base name = if b then some (k, bottom ρ base name) else none
 pub record Follows (ks ws sc : List ℕ) (n : ℕ) (r : Followed) : Type 0 where
   pub is : (ρ : Naming) (al : Aliases) → Table ρ al ks ws sc → shape (try-resolve al 65 [] (Named (ρ n))) ≡ shaped ρ (r .ok) (r .levels) (r .base) (r .name)
 
--- the kind of a basic type, 0 for an array and a name
+-- the kind of a basic type, 34 for a tuple, 0 for an array and a name
 unfoldable pub kind-of : Ty → ℕ
 kind-of (basic k) = k
 kind-of (Array n t) = 0
 kind-of (Named x) = 0
+kind-of (Tuple n) = 34
 
 -- what `basic_kind` answers
 pub record KindOf (ks ws sc : List ℕ) (t : Typ) (r : ℕ) : Type 0 where

@@ -8,7 +8,7 @@ use mathlib.Core.Option.{Option, none, some}
 use lib.Dec.{eqb}
 use lib.ListN.{getD}
 use Rattle.lustre.specs.Name.{Name, if_then_else_}
-use Rattle.lustre.specs.Types.{Ty, basic, Array, Named}
+use Rattle.lustre.specs.Types.{Ty, basic, Array, Named, Tuple}
 use Rattle.types.specs.declared.Typ.{Typ}
 
 -- the text of each name number
@@ -19,9 +19,9 @@ Naming = ℕ → Name
 abbrev pub Injective : Naming → Type 0
 Injective ρ = (m n : ℕ) → ρ m ≡ ρ n → m ≡ n
 
--- base kind k with name number n: kind 33 is a name, any other a basic type
+-- base kind k with number n: kind 33 is the name of that number, 34 a tuple of so many members, any other a basic type
 unfoldable pub bottom : Naming → ℕ → ℕ → Ty
-bottom ρ k n = if eqb k 33 then Named (ρ n) else basic k
+bottom ρ k n = if eqb k 33 then Named (ρ n) else if eqb k 34 then Tuple n else basic k
 
 -- arrays of the first k of the lengths l around t, length number k - 1 outermost
 unfoldable pub up : List ℕ → ℕ → Ty → Ty

@@ -162,7 +162,7 @@ fn same_basic(a: Typ, b: Typ) -> bool
     if b.levels != 0 {
         return false;
     }
-    if a.base == NAMED {
+    if a.base >= NAMED {
         return false;
     }
     a.base == b.base

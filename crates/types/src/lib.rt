@@ -1,6 +1,6 @@
 // Types by value: a base kind, a name's number and up to 127 array lengths, passed and returned as a struct.
 // `ol_ir/types.rs` in document 01's forms: no boxes, names by number. Kinds 20 to 31 are the basic types, 33 is a named type; 34 and
-// 35, which no record has, are the types of tuples and of no value (`__tuple__` and `__unit__` in the Rust).
+// 35, which no record has, are the types of tuples of so many members and of no value (`__tuple__` and `__unit__` in the Rust).
 // The lengths stand innermost first, so that an array's element is the type with one length less.
 // Reading types from the records, resolving them and the types of literals are the modules below.
 pub mod aliases;
@@ -11,13 +11,19 @@ ghost use mathlib.Core.Path.{_≡_};
 ghost use mathlib.Core.Bool.{_&&_, false};
 ghost use Prim.Native.Nat.{_+_, _<_, _≤_};
 ghost use lib.Dec.{leb};
-ghost use Rattle.lustre.specs.Types.{same-type, within, is-bool, is-integer, is-numeric, is-tuple};
+ghost use mathlib.Core.Option.{none, some};
+ghost use Rattle.lustre.specs.Name.{if_then_else_};
+ghost use Rattle.lustre.specs.Types.{same-type, within, is-bool, is-integer, is-numeric, members};
 ghost use Rattle.types.specs.Value.{Naming, Injective, bottom, asTy, outer, Bottom, ArrayOf, Around};
 
 // The kind of a named type; a base of any other kind has no name.
 pub const NAMED: u8 = 33;
 
-// A type: `levels` arrays around a basic or named type. `name` counts for kind 33 only, and lengths from `levels` on do not count.
+// The kind of a tuple type.
+pub const TUPLE: u8 = 34;
+
+// A type: `levels` arrays around a basic or named type or a tuple. `name` is a name's number for kind 33, the number of members for 34,
+// and counts for no other; lengths from `levels` on do not count.
 pub struct Typ {
     pub base: u8,
     pub name: u64,
@@ -115,9 +121,9 @@ pub fn is_between(k: u8, low: u8, high: u8) -> bool
     k <= high
 }
 
-// Whether t is a basic type of the kinds from low to high, which leave out 33.
+// Whether t is a basic type of the kinds from low to high, which are below those of names and tuples.
 fn is_within(t: Typ, low: u8, high: u8) -> bool
-    requires { ⌜ (leb low 33 && leb 33 high) ≡ false ⌝ }
+    requires { ⌜ high < 33 ⌝ }
     ensures { λ r. ⌜ ((ρ : Naming) → r ≡ within low high (asTy ρ t)) ⌝ }
 {
     if t.levels != 0 {
@@ -147,24 +153,30 @@ pub fn is_numeric(t: Typ) -> bool
     is_within(t, 21, 30)
 }
 
-// Whether t is the type of tuples.
+// Whether t is a tuple; its name field then is its number of members.
 pub fn is_tuple(t: Typ) -> bool
-    ensures { λ r. ⌜ ((ρ : Naming) → r ≡ is-tuple (asTy ρ t)) ⌝ }
+    ensures { λ r. ⌜ ((ρ : Naming) → members (asTy ρ t) ≡ (if r then some (t .name) else none)) ⌝ }
 {
-    is_within(t, 34, 34)
+    if t.levels != 0 {
+        return false;
+    }
+    t.base == TUPLE
 }
 
-// Whether base kinds a and b with name numbers m and n are one type.
+// Whether base kinds a and b with numbers m and n are one type.
 fn same_bottom(a: u8, m: u64, b: u8, n: u64) -> bool
     ensures { λ r. ⌜ ((ρ : Naming) → Injective ρ → r ≡ same-type (bottom ρ a m) (bottom ρ b n)) ⌝ }
 {
     if a != b {
         return false;
     }
-    if a != NAMED {
-        return true;
+    if a == NAMED {
+        return m == n;
     }
-    m == n
+    if a == TUPLE {
+        return m == n;
+    }
+    true
 }
 
 // Whether a and b are one type: names are compared by number, which says the same of texts that are all different.

@@ -1,6 +1,7 @@
 -- `equations::check_type` meets its contract: what inference says, and what is said of its type then. Assumes nothing.
 use borrow.Author.Needs.{needs}
 use native.Mathlib.Omega.{arith}
+use Rattle.lustre.specs.Expr.{form}
 use Rattle.lustre.specs.Project.{skeleton}
 use Rattle.lustre.specs.Resolve.{context}
 use Rattle.lustre.specs.Node.{bound}
@@ -41,7 +42,7 @@ infer-requires c κs =
     (sides.side-given w, sides.side-few w)
 
 check-bound-requires : tie.Need-check-bound-requires
-check-bound-requires c κs = (c .before .before .before .before .before .before .before .before .before .before .before .before .before .pre .left, omega (arith, c .before .before .before .before .before .before .before .before .declared-type .ensures (c .before .before .before .before .before .before .before .before .before .before .before .before .before .pre .left) .low))
+check-bound-requires c κs = (c .before .before .before .before .before .before .before .before .before .before .before .before .before .pre, omega (arith, c .before .before .before .before .before .before .before .before .declared-type .ensures (c .before .before .before .before .before .before .before .before .before .before .before .before .before .pre .left) .low))
 
 same-length : tie.Need-same-length
 same-length c = search needs
@@ -52,7 +53,7 @@ returns c =
     let w = g .left .scoped in
     let h = c .before .before .before .before .before .before .before .before .before .before .before .declared-type .ensures (g .left) in
     let d = sides.side-done (sides-whole g h) (c .before .before .before .before .before .before .before .infer .ensures) in
-    said-then-noted (bound (context (skeleton (w .model .P))) (w .env) (g .left .xs)) (maybe-yes (w .model .text) _ (c .before .before .before .before .if1 .taken)) (rw (h .is) at (d .said)) (c .before .before .check-bound .ensures (g .left) (h .is))
+    said-then-noted (bound (context (skeleton (w .model .P))) (w .env) (g .left .xs) (form (g .e))) (maybe-yes (w .model .text) _ (c .before .before .before .before .if1 .taken)) (rw (h .is) at (d .said)) (c .before .before .check-bound .ensures g (h .is))
 
 same-length-2 : tie.Need-same-length-2
 same-length-2 c = search needs
@@ -63,7 +64,7 @@ returns-2 c =
     let w = g .left .scoped in
     let h = c .before .before .before .before .before .before .before .declared-type .ensures (g .left) in
     let d = sides.side-done (sides-whole g h) (c .before .before .before .infer .ensures) in
-    said-then-noted (bound (context (skeleton (w .model .P))) (w .env) (g .left .xs)) (maybe-no (w .model .text) _ (c .if1 .left)) (rw (h .is) at (d .said)) (rw (bound-nothing (context (skeleton (w .model .P))) (w .env) (g .left .xs)) noted-none)
+    said-then-noted (bound (context (skeleton (w .model .P))) (w .env) (g .left .xs) (form (g .e))) (maybe-no (w .model .text) _ (c .if1 .left)) (rw (h .is) at (d .said)) (rw (bound-nothing (context (skeleton (w .model .P))) (w .env) (g .left .xs) (form (g .e))) noted-none)
 
 pub check-type-spec : {M : Type 1} → statement M
 check-type-spec =

@@ -8,7 +8,7 @@ use Rattle.rules.proofs.cast_rule.Statement.{statement}
 use Rattle.rules.proofs.cast_rule.Tie as tie
 
 resolves-within-requires : tie.Need-resolves-within-requires
-resolves-within-requires c κs = (c .before .before .before .before .pre .0, omega arith)
+resolves-within-requires c κs = (c .before .before .before .before .pre .0, omega arith, omega arith)
 
 is-numeric-requires : tie.Need-is-numeric-requires
 is-numeric-requires c κs = search needs

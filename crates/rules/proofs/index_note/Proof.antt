@@ -6,7 +6,7 @@ use Rattle.rules.proofs.index_note.Statement.{statement}
 use Rattle.rules.proofs.index_note.Tie as tie
 
 resolves-within-requires : tie.Need-resolves-within-requires
-resolves-within-requires c κs = (c .before .before .before .before .pre, omega arith)
+resolves-within-requires c κs = (c .before .before .before .before .pre, omega arith, omega arith)
 
 returns : tie.Need-returns
 returns c = λ W. rw (← c .before .resolves-within .ensures W, c .if1 .taken) noted-none

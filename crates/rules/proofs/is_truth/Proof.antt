@@ -4,7 +4,7 @@ use Rattle.rules.proofs.is_truth.Statement.{statement}
 use Rattle.rules.proofs.is_truth.Tie as tie
 
 resolves-within-requires : tie.Need-resolves-within-requires
-resolves-within-requires c κs = (c .before .before .before .pre, omega arith)
+resolves-within-requires c κs = (c .before .before .before .pre, omega arith, omega arith)
 
 returns : tie.Need-returns
 returns c = c .resolves-within .ensures

@@ -26,7 +26,7 @@ returns-2 c =
     λ num ρ t h.
     let b = c .bottom-of .ensures in
     returned _ (omega (arith, b .flat)) (λ e. omega (arith, b .name)) refl
-    (rules.literal-typed _ h (c .before .if1 .left) ∙ ap return (sym (b .is ρ ∙ bottom-basic ρ _ 0 (h .no-name))))
+    (rules.literal-typed _ h (c .before .if1 .left) ∙ ap return (sym (b .is ρ ∙ bottom-basic ρ _ 0 (h .no-name) (h .no-tuple))))
 
 pub literal-rule-spec : {M : Type 1} → statement M
 literal-rule-spec = tie.close (tie.spec fail-plain-requires same-length returns bottom-of-requires returns-2)

@@ -41,7 +41,7 @@ returns-3 c =
     λ k e W.
     let x = c .before .before .before .before .before .basic-kind .ensures .is (W .text) (W .Γ .alias) (W .alias) in
     let y = c .before .before .before .before .basic-kind2 .ensures .is (W .text) (W .Γ .alias) (W .alias) in
-    c .is-between2 .ensures ∙ ap (λ (i : ℕ). leb 21 i && leb i 28) x ∙ sym (meets-bitwise _ _ k e (c .before .if3 .taken) ∙ one-kind 21 28 (omega arith) _ _ (sym x ∙ c .before .before .before .if1 .left ∙ y))
+    c .is-between2 .ensures ∙ ap (λ (i : ℕ). leb 21 i && leb i 28) x ∙ sym (meets-bitwise _ _ k e (c .before .if3 .taken) ∙ one-kind 21 28 (omega arith) (omega arith) _ _ (sym x ∙ c .before .before .before .if1 .left ∙ y))
 
 is-between-requires-3 : tie.Need-is-between-requires-3
 is-between-requires-3 c κs = search needs
@@ -51,7 +51,7 @@ returns-4 c =
     λ k e W.
     let x = c .before .before .before .before .before .basic-kind .ensures .is (W .text) (W .Γ .alias) (W .alias) in
     let y = c .before .before .before .before .basic-kind2 .ensures .is (W .text) (W .Γ .alias) (W .alias) in
-    c .is-between3 .ensures ∙ ap (λ (i : ℕ). leb 21 i && leb i 30) x ∙ sym (meets-numbers _ _ k e (c .before .before .if2 .left) (c .before .before .before .before .before .before .before .before .before .pre .1) (c .before .if3 .left) ∙ one-kind 21 30 (omega arith) _ _ (sym x ∙ c .before .before .before .if1 .left ∙ y))
+    c .is-between3 .ensures ∙ ap (λ (i : ℕ). leb 21 i && leb i 30) x ∙ sym (meets-numbers _ _ k e (c .before .before .if2 .left) (c .before .before .before .before .before .before .before .before .before .pre .1) (c .before .if3 .left) ∙ one-kind 21 30 (omega arith) (omega arith) _ _ (sym x ∙ c .before .before .before .if1 .left ∙ y))
 
 pub meets-spec : {M : Type 1} → statement M
 meets-spec =

@@ -35,7 +35,7 @@ unfolding unary-of
 returns-2 c = λ o e W. rw (rules.not-of o e (c .before .before .before .before .before .before .if1 .taken)) (refused _ (sym (c .before .before .before .before .before .is-truth .ensures W) ∙ c .before .before .before .before .if2 .left) (c .before .before .fail-plain .ensures))
 
 resolves-within-requires : tie.Need-resolves-within-requires
-resolves-within-requires c κs = (c .before .before .before .before .before .pre .0, omega arith)
+resolves-within-requires c κs = (c .before .before .before .before .before .pre .0, omega arith, omega arith)
 
 returns-3 : tie.Need-returns-3
 unfolding unary-of

@@ -1,4 +1,4 @@
--- `types::is_within` meets its contract: an array is of no class, and neither is a name. Assumes nothing.
+-- `types::is_within` meets its contract: an array is of no class, and neither is a name or a tuple. Assumes nothing.
 use native.Mathlib.Omega.{arith}
 use mathlib.Core.Path.{sym, _∙_}
 use borrow.Author.Needs.{needs}

@@ -10,11 +10,12 @@ use crate::read;
 use crate::records::{write, Model, BASIC};
 use crate::rng::Rng;
 use crate::special;
+use crate::tuples::tuples;
 
 /// Every code that can appear, the ones with several rules more than once.
-const CODES: [u64; 67] = [
-    1, 2, 3, 4, 5, 6, 7, 8, 10, 11, 12, 20, 21, 22, 30, 40, 41, 50, 51, 60, 70, 80, 80, 81, 82, 83, 84, 85, 86, 87,
-    90, 91, 92, 93, 94, 95, 100, 101, 102, 103, 110, 111, 120, 121, 122, 123, 124, 125, 126, 127, 128, 130, 131, 140,
+const CODES: [u64; 69] = [
+    1, 2, 3, 4, 5, 6, 7, 8, 10, 11, 12, 20, 21, 22, 30, 40, 41, 42, 43, 50, 51, 60, 70, 80, 80, 81, 82, 83, 84, 85,
+    86, 87, 90, 91, 92, 93, 94, 95, 100, 101, 102, 103, 110, 111, 120, 121, 122, 123, 124, 125, 126, 127, 128, 130, 131, 140,
     141, 142, 143, 144, 145, 145, 145, 145, 145, 145, 146, 146, 150,
 ];
 
@@ -38,7 +39,7 @@ pub fn model(seed: u64, index: u64, shows: impl Fn(&Model, u64) -> bool) -> Mode
 fn draw(rng: &mut Rng) -> Model {
     let most = if rng.percent(12) { 200 } else { 80 };
     loop {
-        let style = rng.weighted(&[21, 5, 7, 4, 2, 4, 31, 26]);
+        let style = rng.weighted(&[21, 5, 7, 4, 2, 4, 29, 24, 8]);
         let (mut project, most) = match style {
             0 => (general(rng, false), most),
             1 => (general(rng, true), most),
@@ -47,7 +48,8 @@ fn draw(rng: &mut Rng) -> Model {
             4 => (special::deep(rng), 200),
             5 => (special::declarations(rng), most),
             6 => (special::suited(rng), most.max(95)),
-            _ => (hints(rng), most.max(95)),
+            7 => (hints(rng), most.max(95)),
+            _ => (tuples(rng), most.max(95)),
         };
         if rng.percent(75) {
             fit(rng, &mut project);

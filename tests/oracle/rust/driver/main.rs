@@ -10,6 +10,7 @@ mod records;
 mod report;
 mod rng;
 mod special;
+mod tuples;
 mod walk;
 
 use std::collections::{BTreeMap, BTreeSet, HashMap};

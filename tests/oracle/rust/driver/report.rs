@@ -10,7 +10,8 @@
 //!
 //! The amended copy is the marked one with the requests of document 02 in it. The two must be equal in
 //! all that no request lets differ: for request 2.10, the typing of the right-hand sides and constant
-//! values in which the marked copy makes an Int32 of an integer that doesn't fit one.
+//! values in which the marked copy makes an Int32 of an integer that doesn't fit one; for request 2.8,
+//! of those that hold a tuple or a call with several outputs.
 use std::collections::{HashMap, HashSet};
 
 use ol_ir::*;
@@ -202,7 +203,7 @@ impl Free {
         let line = place_of(&d, &mark, places);
         match line.code {
             60 => self.loops.contains(&mark.0),
-            5 | 40 | 41 | 80..=131 | 140..=145 => self.typing.contains(&(line.place, line.number, line.equation)),
+            5 | 40..=43 | 80..=131 | 140..=145 => self.typing.contains(&(line.place, line.number, line.equation)),
             _ => false,
         }
     }
@@ -213,20 +214,43 @@ impl Free {
     }
 }
 
+/// The right-hand sides and constant values that hold a tuple or a call with several outputs.
+fn tuples_in(project: &Project, places: &Places) -> HashSet<Side> {
+    let outputs: HashMap<&str, usize> = project.all_nodes().map(|n| (n.name.as_str(), n.outputs.len())).collect();
+    let mut sides = HashSet::new();
+    let mut look = |e: &Expr| {
+        let tuple = match e {
+            Expr::Tuple { .. } => true,
+            Expr::Call { node, .. } => outputs.get(node.as_str()).map_or(false, |n| *n > 1),
+            _ => false,
+        };
+        if tuple {
+            sides.insert(places.sides[&address(e)]);
+        }
+    };
+    for pkg in &project.packages {
+        pkg.constants.iter().for_each(|c| c.value.visit(&mut look));
+        pkg.nodes.iter().flat_map(|n| &n.equations).for_each(|eq| eq.rhs.visit(&mut look));
+    }
+    sides
+}
+
 /// Holds the E0095 of the amended copy to the integers of which the marked copy makes an Int32 that
-/// doesn't hold them: in each right-hand side or constant value the first is the same. (Behind it the
-/// amended copy may go on where the marked one stops, after a fold's seed.) Gives the sides where there is one.
-fn typing_differs(taken: &[(i64, usize)], amended: &[Diagnostic], places: &Places) -> HashSet<Side> {
+/// doesn't hold them: in each right-hand side or constant value without tuples the first is the same.
+/// (Behind it the amended copy may go on where the marked one stops, after a fold's seed.) Gives the
+/// sides where there is one, and those with tuples.
+fn typing_differs(taken: &[(i64, usize)], amended: &[Diagnostic], places: &Places, tuples: HashSet<Side>) -> HashSet<Side> {
     let firsts = |all: &mut dyn Iterator<Item = usize>| {
         let mut firsts = HashMap::new();
-        all.for_each(|at| drop(firsts.entry(places.sides[&at]).or_insert(at)));
+        all.filter(|at| !tuples.contains(&places.sides[at]))
+            .for_each(|at| drop(firsts.entry(places.sides[&at]).or_insert(at)));
         firsts
     };
     let large = |(value, at): &(i64, usize)| i32::try_from(*value).is_err().then_some(*at);
     let met = firsts(&mut taken.iter().filter_map(large));
     let shown = amended.iter().filter(|d| d.code == "E0095").map(|d| unmark(&mut d.clone()).1);
     assert_eq!(met, firsts(&mut { shown }), "E0095 is not where the Rust's Int32 doesn't hold an integer");
-    met.into_keys().collect()
+    met.into_keys().chain(tuples.iter().copied()).collect()
 }
 
 /// The names of the loop that each node is shown.
@@ -250,7 +274,7 @@ fn diagnostics(project: &Project, nodes: &[&NodeDef], places: &Places, rule: Rul
     let taken = ol_marked::mark::taken();
     let amended = ol_amended::check_project(project).diagnostics;
     let loops = nodes.iter().filter(|n| differs(n)).map(|n| address(*n)).collect();
-    let free = Free { loops, typing: typing_differs(&taken, &amended, places) };
+    let free = Free { loops, typing: typing_differs(&taken, &amended, places, tuples_in(project, places)) };
     assert_eq!(free.rest(&marked, places), free.rest(&amended, places), "more differs than the requests say");
     for (rule, found) in [(Rule::Rust, &marked), (Rule::Amended, &amended)] {
         let walked: Vec<_> = nodes.iter().map(|n| walk(n, rule).path).collect();
@@ -348,7 +372,7 @@ fn name_in(d: &Diagnostic, line: &Line, nodes: &[&NodeDef]) -> Option<String> {
     };
     let inner = |before: &str, after: &str| Some(between(m, before, after));
     match line.code {
-        2 | 4 | 30 | 41 | 70 | 81..=87 | 90..=95 | 110 | 111 | 123 | 124 | 131 | 143..=146 => None,
+        2 | 4 | 30 | 41 | 42 | 70 | 81..=87 | 90..=95 | 110 | 111 | 123 | 124 | 131 | 143..=146 => None,
         1 => last("duplicate node name `"),
         3 => last("duplicate constant `"),
         5 => inner("constant `", "` declared as "),
@@ -362,6 +386,7 @@ fn name_in(d: &Diagnostic, line: &Line, nodes: &[&NodeDef]) -> Option<String> {
         21 => inner("name `", "` is assigned "),
         22 => last("equation assigns input `"),
         40 => inner("equation `", " = ...` has type "),
+        43 => inner("name `", "` is not of "),
         50 => inner("output `", "` is never "),
         51 => inner("local `", "` is declared "),
         80 => last("unknown identifier `"),

@@ -16,7 +16,7 @@ pub index-infer-requires : (t : ℕ) → index-lts.Need-infer-requires (index-cl
 index-infer-requires t c κs = (omega (arith, c .before .before .before .before .before .before .before .before .pre .0, cases.inside (c .before .before .before .before .before .before .before .before .pre .1 .0)), (cases.index-first (c .before .before .before .before .before .before .before .before .pre .1 .0) (c .before .before .before .before .before .before .before .before .pre .1 .2) (c .before .no-hint .ensures), c .before .before .before .before .before .before .before .before .pre .1 .1))
 
 pub index-basic-hint-requires : (t : ℕ) → index-lts.Need-basic-hint-requires (index-claims t) (index-at t) index.Post
-index-basic-hint-requires t c κs = λ z. omega arith
+index-basic-hint-requires t c κs = omega arith
 
 pub index-infer-requires-2 : (t : ℕ) → index-lts.Need-infer-requires-2 (index-claims t) (index-at t) index.Post
 index-infer-requires-2 t c κs = (omega (arith, c .before .before .before .before .before .before .before .before .before .before .before .before .before .before .before .pre .0, cases.inside (c .before .before .before .before .before .before .before .before .before .before .before .before .before .before .before .pre .1 .0), cases.index-next (c .before .before .before .before .before .before .before .before .before .before .before .before .before .before .before .pre .1 .0) (c .before .before .before .before .before .before .before .before .before .before .before .before .before .before .before .pre .1 .2) (c .before .before .before .before .before .before .before .before .no-hint .ensures) (c .before .before .before .before .before .before .infer .ensures) (c .before .before .before .if1 .taken)), (cases.index-second (c .before .before .before .before .before .before .before .before .before .before .before .before .before .before .before .pre .1 .0) (c .before .before .before .before .before .before .before .before .before .before .before .before .before .before .before .pre .1 .2) (c .before .before .before .before .before .before .before .before .no-hint .ensures) (c .before .before .before .before .before .before .infer .ensures) (c .before .before .before .if1 .taken) (c .before .basic-hint .ensures), c .before .before .before .before .before .before .before .before .before .before .before .before .before .before .before .pre .1 .1))

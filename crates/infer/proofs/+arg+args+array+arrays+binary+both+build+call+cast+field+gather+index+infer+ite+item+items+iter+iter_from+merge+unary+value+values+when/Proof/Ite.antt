@@ -7,7 +7,7 @@ use Rattle.infer.proofs.+arg+args+array+arrays+binary+both+build+call+c
 use Rattle.infer.proofs.+arg+args+array+arrays+binary+both+build+call+cast+field+gather+index+infer+ite+item+items+iter+iter_from+merge+unary+value+values+when.Proof.Common.{ite-at, ite-claims}
 
 pub ite-basic-hint-requires : (t : ℕ) → ite-lts.Need-basic-hint-requires (ite-claims t) (ite-at t) ite.Post
-ite-basic-hint-requires t c κs = λ z. omega arith
+ite-basic-hint-requires t c κs = omega arith
 
 pub ite-add-infer : (t : ℕ) → ite-lts.Need-add-infer (ite-claims t) (ite-at t) ite.Post
 ite-add-infer t c = omega (arith, cases.inside (c .before .before .before .before .before .before .before .pre .1 .0))

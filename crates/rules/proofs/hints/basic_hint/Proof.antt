@@ -16,7 +16,7 @@ unfolding maybe
 returns c =
     λ ρ.
     let b = c .bottom-of .ensures in
-    record { is = ap some (b .is ρ ∙ bottom-basic ρ _ 0 (c .before .pre)); low = omega (arith, b .flat); known = λ h. omega (arith, b .name) }
+    record { is = ap some (b .is ρ ∙ bottom-basic ρ _ 0 (λ e. omega (arith, c .before .pre)) (λ e. omega (arith, c .before .pre))); low = omega (arith, b .flat); known = λ h. omega (arith, b .name) }
 
 pub basic-hint-spec : {M : Type 1} → statement M
 basic-hint-spec = tie.close (tie.spec bottom-of-requires returns)

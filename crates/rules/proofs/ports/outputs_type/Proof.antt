@@ -42,7 +42,7 @@ bottom-of-requires-2 c κs = search needs
 
 returns-3 : tie.Need-returns-3
 unfolding bottom
-returns-3 c = λ g. let b = c .bottom-of2 .ensures in record { is = b .is (g .text) ∙ sym (outputs-more g (c .before .before .if1 .left) (c .before .if2 .left)); low = omega (arith, b .flat); known = λ h. omega (arith, b .name) }
+returns-3 c = λ g. let b = c .bottom-of2 .ensures in record { is = b .is (g .text) ∙ sym (outputs-more g (c .before .before .if1 .left) (c .before .if2 .left)); low = omega (arith, b .flat); known = λ h. absurd (omega (arith, b .base)) }
 
 pub outputs-type-spec : {M : Type 1} → statement M
 outputs-type-spec =

@@ -19,10 +19,10 @@ returns c = takes-hint picks-float (c .before .before .before .before .if1 .take
 
 returns-2 : tie.Need-returns-2
 unfolding within
-returns-2 c = leaves-hint picks-float (c .before .before .before .before .if1 .taken) (c .before .before .basic-kind .ensures) (sym (c .before .is-between .ensures) ∙ c .if2 .left) (kind-is 30 (eqb-false 30 0 refl) (eqb-false 30 33 refl))
+returns-2 c = leaves-hint picks-float (c .before .before .before .before .if1 .taken) (c .before .before .basic-kind .ensures) (sym (c .before .is-between .ensures) ∙ c .if2 .left) (kind-is 30 (eqb-false 30 0 refl) (eqb-false 30 33 refl) (eqb-false 30 34 refl))
 
 returns-3 : tie.Need-returns-3
-returns-3 c = no-hint picks-float (c .if1 .left) (kind-is 30 (eqb-false 30 0 refl) (eqb-false 30 33 refl))
+returns-3 c = no-hint picks-float (c .if1 .left) (kind-is 30 (eqb-false 30 0 refl) (eqb-false 30 33 refl) (eqb-false 30 34 refl))
 
 pub float-literal-type-spec : {M : Type 1} → statement M
 float-literal-type-spec = tie.close (tie.spec basic-kind-requires is-between-requires returns returns-2 returns-3)

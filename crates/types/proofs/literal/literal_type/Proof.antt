@@ -15,7 +15,7 @@ float-literal-type-requires c κs = search needs
 
 returns : tie.Need-returns
 unfolding literalOf literal-type
-returns c = typed-as _ _ (ap literalOf (c .match .keys1)) (any-hint 20 (eqb-false 20 0 refl) (eqb-false 20 33 refl))
+returns c = typed-as _ _ (ap literalOf (c .match .keys1)) (any-hint 20 (eqb-false 20 0 refl) (eqb-false 20 33 refl) (eqb-false 20 34 refl))
 
 returns-2 : tie.Need-returns-2
 unfolding literalOf literal-type
@@ -29,7 +29,7 @@ returns-4 : tie.Need-returns-4
 unfolding literal-type
 returns-4 c =
     let r = c .match .rest in
-    typed-as _ _ (is-char _ (r .0 .0 .1) (r .0 .1) (r .1)) (any-hint 31 (eqb-false 31 0 refl) (eqb-false 31 33 refl))
+    typed-as _ _ (is-char _ (r .0 .0 .1) (r .0 .1) (r .1)) (any-hint 31 (eqb-false 31 0 refl) (eqb-false 31 33 refl) (eqb-false 31 34 refl))
 
 pub literal-type-spec : {M : Type 1} → statement M
 literal-type-spec =
