@@ -76,6 +76,28 @@ def nodes(file):
     return found
 
 
+def outputs(records):
+    """How many outputs each node has, by name, of equal names the last."""
+    found = {}
+    for at, (kind, name) in enumerate(records):
+        if kind in (10, 11, 12):
+            left, at = records[at + 1][1], at + 2
+            while left:
+                at += 1
+                while records[at][0] == 32:
+                    at += 1
+                at, left = at + 1, left - 1
+            found[name] = records[at][1]
+    return found
+
+
+def has_tuple(file):
+    """Whether a file holds a tuple or a call with several outputs, which the comparison with the unchanged Rust may leave out (request 2.8)."""
+    records = spell(file)
+    several = {name for name, count in outputs(records).items() if count > 1}
+    return any(kind == 73 or kind == 70 and word in several for kind, word in records)
+
+
 def frame(file, work=WORK, room=ROOM):
     """A model of a stream."""
     return struct.pack("<III", work, room, len(file)) + file

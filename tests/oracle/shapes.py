@@ -91,7 +91,7 @@ def graphs():
         sorts = [b"a", b"b", b"c", b"d"][:n]
         sets = [s for k in range(n + 1) for s in itertools.combinations(sorts, k)]
         for choice in itertools.product(*[[s for s in sets if own or x not in s] for x in sorts]):
-            rhs = [[(73, len(c))] + [(44, y) for y in c] for c in choice]
+            rhs = [[(57, 0)] * (len(c) - 1) + [(44, y) for y in c] or [(41, 0)] for c in choice]
             equations = [equation([x], r) for x, r in zip(sorts, rhs)]
             yield project(nodes=[node(b"n", 11, [], [port(x, INT32) for x in sorts], [], equations)])
 
@@ -126,9 +126,25 @@ def declarations():
         yield project(nodes=[node(b"n", kind, one(i), one(o), one(l), [equation(lhs, [(44, B)])], lhs)])
 
 
+def members():
+    """Every equation of up to three names with a call or a tuple, of up to two with two of them where types meet; z is declared nowhere."""
+    declared = {A: (INT32,), B: (BOOL,), b"t": ((33, b"T"),)}
+    given = lambda name, *outputs: node(name, 12, [], [port(b"o%d" % i, t) for i, t in enumerate(outputs)])
+    nodes = [given(b"f", (33, b"T"), BOOL), given(b"g", INT32, INT32, INT32), given(b"h"), given(b"one", INT32)]
+    sides = [[(70, x), (3, 0)] for x in (b"f", b"g", b"h", b"one")] + [[(73, n)] + [(41, 0)] * n for n in range(4)]
+    heads = [[(67, 0), (40, 1)], [(69, 0)], [(79, C)], [(51, 0)], [(74, 2)], [(73, 2)]]
+    pairs = [head + x + y for head in heads for x in sides for y in sides]
+    for most, rhss in ((3, sides), (2, pairs)):
+        for lhs in (lhs for n in range(most + 1) for lhs in itertools.product((A, B, b"t", b"z"), repeat=n)):
+            outputs = [port(x, *declared[x]) for x in declared if x in lhs]
+            for rhs in rhss:
+                n = node(b"n", 11, [port(C, BOOL)], outputs, [], [equation(lhs, rhs)])
+                yield project([[(4, b"T"), INT32]], [], nodes + [n])
+
+
 def small():
     """All families."""
-    return itertools.chain(values(), graphs(), temporals(), declarations())
+    return itertools.chain(values(), graphs(), temporals(), declarations(), members())
 
 
 # ---- the deepest expressions
