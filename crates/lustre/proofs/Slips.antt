@@ -9,7 +9,7 @@ use Rattle.lustre.specs.Expr.{Expr, Fold, Neg, Eq, unary, binary, pre, t
 use Rattle.lustre.specs.Project.{Node, Project, Function, Operator}
 use Rattle.lustre.specs.Line.{at-constant}
 use Rattle.lustre.specs.Computes.{computes}
-use Rattle.lustre.proofs.Models.{text, ln, E_at_, E_at_on_, Named′, _of_, v, call′, when′, iterate-from′, num, yes}
+use Rattle.lustre.proofs.Models.{text, ln, E_at_, E_at_on_, E_eq_, Named′, _of_, v, call′, when′, iterate-from′, num, yes}
 use Rattle.lustre.proofs.Models.{alias′, constant′, _≔_, _≔≔_, node′, project, Seen, _gives_}
 
 -- an operator n with inputs a and s, and the output x = e
@@ -50,6 +50,8 @@ slips =
     ∷ (project (alias′ "T" Int8 ∷ []) [] (n (Named′ "T") Int8 Boolean (binary Eq (v "a") (num 1)) ∷ []) gives E 84 at 0 ∷ [])
     -- the items of a tuple are not typed
     ∷ (project [] [] (three-names (tuple (v "lost" ∷ᵉ call′ "lost" []ᵉ ∷ᵉ yes ∷ᵉ []ᵉ)) ∷ []) gives [])
+    -- nor is its arity checked, says document 01; since request 2.8 it is: (a, b, c) = f(s), where f has two outputs
+    ∷ (project [] [] (three-names (call′ "f" (v "s" ∷ᵉ []ᵉ)) ∷ f ∷ []) gives E 42 eq 0 ∷ [])
     -- a clock is not looked for among constants: E0080
     ∷ (project [] (constant′ "k" Boolean yes ∷ []) (n Int32 Int8 Int32 (when′ true "k" (v "a")) ∷ []) gives E 80 at 0 on "k" ∷ [])
     -- a fold compares the first array's element type only; E0143 and E0144 look at all

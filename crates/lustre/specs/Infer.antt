@@ -69,7 +69,7 @@ gives Bitwise l = l
 unfoldable pub literal-rule : ℕ → Option Ty → Out Ty
 literal-rule at t = if-found t return (fail (plain at 95))
 
--- the type of a call, lib.rs 1001; a tuple has as many members as there are outputs
+-- the type of a call, lib.rs 1001; since request 2.8 a tuple has a number of members, as many as there are outputs
 unfoldable pub outputs-type : List Port → Ty
 outputs-type [] = unit-type
 outputs-type (o ∷ []) = o .1
