@@ -4,7 +4,8 @@ use Prim.Native.Nat.{ℕ, _+_, _<_}
 use mathlib.Core.Path.{_≡_}
 use mathlib.Core.Bool.{Bool, false, _&&_, _||_}
 use mathlib.Core.List.{List, [], _∷_, _++_}
-use Rattle.lustre.specs.Name.{Name, if_then_else_, _among_}
+use mathlib.Core.Option.{Option}
+use Rattle.lustre.specs.Name.{Name, if_then_else_, _among_, lookup}
 use Rattle.lustre.specs.Types.{Ty}
 use Rattle.lustre.specs.Expr.{Expr, contains-temporal, form}
 use Rattle.lustre.specs.Project.{Port, Equation, Node, skeleton, port-names, is-function}
@@ -14,7 +15,7 @@ use Rattle.lustre.specs.Init.{pres}
 use Rattle.lustre.specs.Placement.{nested}
 use Rattle.lustre.specs.Infer.{infer}
 use Rattle.lustre.specs.Deps.{reads}
-use Rattle.lustre.specs.Node.{wanted, bound, equation-notes}
+use Rattle.lustre.specs.Node.{wanted, bound-one, bound-each, bound-tuple, bound, equation-notes}
 use Rattle.input.specs.Depths.{Shallow-expr}
 use Rattle.standing.specs.Standing.{source, Names-at, Expr-at, Equation-at, equation-size}
 use Rattle.lines.specs.Lines.{Noted}
@@ -43,11 +44,24 @@ pub record Output-given (ks ws sc : List ℕ) (at : ℕ) : Type 0 where
   pub t : Ty
   pub typed : Typed (records (scoped .model)) t at
 
+-- the note of the name of that number where its declared type is not t
+abbrev pub output-notes : {ks ws sc : List ℕ} {at : ℕ} → Output-given ks ws sc at → ℕ → List Note
+output-notes g name =
+    let w = g .scoped in
+    let x = w .model .text name in
+    bound-one (context (skeleton (w .model .P))) 43 x (g .t) (lookup x (w .env))
+
 -- the names assigned, and the outputs ps in the list at a place
 pub record Outputs-given (ks ws sc : List ℕ) (list outputs : ℕ) : Type 0 where
   pub left : Left-given ks ws sc list
   pub ps : List Port
   pub listed : Listed (records (left .scoped .model)) ps outputs
+
+-- the notes of the names, each beside the output at its position
+abbrev pub outputs-notes : {ks ws sc : List ℕ} {list outputs : ℕ} → Outputs-given ks ws sc list outputs → List Note
+outputs-notes g =
+    let w = g .left .scoped in
+    bound-each (context (skeleton (w .model .P))) (w .env) (g .left .xs) (g .ps)
 
 -- the names assigned, and the right-hand side e at a place
 pub record Sides-given (ks ws sc : List ℕ) (list start : ℕ) : Type 0 where
@@ -56,12 +70,24 @@ pub record Sides-given (ks ws sc : List ℕ) (list start : ℕ) : Type 0 where
   pub stands : Expr-at (records (left .scoped .model)) e start
   pub shallow : Shallow-expr e
 
+-- E0042 or E0043 where the right-hand side is a tuple of so many members
+abbrev pub tuple-notes : {ks ws sc : List ℕ} {list start : ℕ} → Sides-given ks ws sc list start → ℕ → List Note
+tuple-notes g members =
+    let w = g .left .scoped in
+    bound-tuple (context (skeleton (w .model .P))) (w .env) (g .left .xs) (form (g .e)) members
+
+-- E0040 to E0043 where the right-hand side is of this type, if it has one
+abbrev pub bound-notes : {ks ws sc : List ℕ} {list start : ℕ} → Sides-given ks ws sc list start → Option Ty → List Note
+bound-notes g t =
+    let w = g .left .scoped in
+    bound (context (skeleton (w .model .P))) (w .env) (g .left .xs) (form (g .e)) t
+
 -- the notes of inference, and E0040 to E0043
 abbrev pub type-notes : {ks ws sc : List ℕ} {list start : ℕ} → Sides-given ks ws sc list start → Bool → List Note
 type-notes g function =
     let w = g .left .scoped in
     let typed = infer (scope-in (w .model) (w .env)) function 0 (g .e) (wanted (w .env) (g .left .xs)) in
-    typed .1 ++ bound (context (skeleton (w .model .P))) (w .env) (g .left .xs) (form (g .e)) (typed .0)
+    typed .1 ++ bound-notes g (typed .0)
 
 -- an equation at a place
 pub record Equation-given (ks ws sc : List ℕ) (at : ℕ) : Type 0 where

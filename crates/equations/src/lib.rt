@@ -32,13 +32,12 @@ ghost use mathlib.Core.Option.{some};
 ghost use mathlib.Core.List.{List, [], _∷_, _++_};
 ghost use lib.Dec.{eqb};
 ghost use lib.ListN.{length, getD};
-ghost use Rattle.lustre.specs.Name.{Name, if_then_else_, _among_, lookup};
+ghost use Rattle.lustre.specs.Name.{Name, if_then_else_, _among_};
 ghost use Rattle.lustre.specs.Types.{Ty};
-ghost use Rattle.lustre.specs.Expr.{contains-temporal, form, size};
-ghost use Rattle.lustre.specs.Project.{Port, Heading, port-names, skeleton};
+ghost use Rattle.lustre.specs.Expr.{contains-temporal, size};
+ghost use Rattle.lustre.specs.Project.{Port, Heading, port-names};
 ghost use Rattle.lustre.specs.Line.{about, bare};
-ghost use Rattle.lustre.specs.Resolve.{context};
-ghost use Rattle.lustre.specs.Node.{assigns, wanted, bound-one, bound-each, bound-tuple, bound};
+ghost use Rattle.lustre.specs.Node.{assigns, wanted};
 ghost use Rattle.standing.specs.Standing.{source};
 ghost use Rattle.standing.specs.Owed.{There};
 ghost use Rattle.lines.specs.Lines.{Noted};
@@ -50,7 +49,7 @@ ghost use Rattle.scope.specs.Tables.{Tables};
 ghost use Rattle.scope.specs.Sets.{Holds};
 ghost use Rattle.scope.specs.Names.{Names-here, Numbers};
 ghost use Rattle.body.specs.Body.{Whole};
-ghost use Rattle.equations.specs.Equations.{side-notes, Left-given, Output-given, Outputs-given, Sides-given, type-notes, Equation-given, Equation-checked, Equation-here, Edges-added};
+ghost use Rattle.equations.specs.Equations.{side-notes, Left-given, Output-given, output-notes, Outputs-given, outputs-notes, Sides-given, tuple-notes, bound-notes, type-notes, Equation-given, Equation-checked, Equation-here, Edges-added};
 
 // The kind of a call's record.
 const CALL: u8 = 70;
@@ -155,7 +154,7 @@ fn check_output(
     n: u64,
 ) -> u64
     requires { ⌜ Output-given (now kinds) (now words) (now scope) at × (name < 512) ⌝ }
-    ensures { λ r. ⌜ ((g : Output-given (now (kinds .entry)) (now (words .entry)) (now (scope .entry)) at) → Noted (g .scoped .model .number) q (bound-one (context (skeleton (g .scoped .model .P))) 43 (g .scoped .model .text name) (g .t) (lookup (g .scoped .model .text name) (g .scoped .env))) (now (out .entry)) n r (now (out .exit))) ⌝ }
+    ensures { λ r. ⌜ ((g : Output-given (now (kinds .entry)) (now (words .entry)) (now (scope .entry)) at) → Noted (g .scoped .model .number) q (output-notes g name) (now (out .entry)) n r (now (out .exit))) ⌝ }
 {
     let i = name as usize;
     let e = scope[i + PORTS];
@@ -192,7 +191,7 @@ fn check_outputs(
     n: u64,
 ) -> u64
     requires { ⌜ Outputs-given (now kinds) (now words) (now scope) list outputs ⌝ }
-    ensures { λ r. ⌜ ((g : Outputs-given (now (kinds .entry)) (now (words .entry)) (now (scope .entry)) list outputs) → Noted (g .left .scoped .model .number) q (bound-each (context (skeleton (g .left .scoped .model .P))) (g .left .scoped .env) (g .left .xs) (g .ps)) (now (out .entry)) n r (now (out .exit))) ⌝ }
+    ensures { λ r. ⌜ ((g : Outputs-given (now (kinds .entry)) (now (words .entry)) (now (scope .entry)) list outputs) → Noted (g .left .scoped .model .number) q (outputs-notes g) (now (out .entry)) n r (now (out .exit))) ⌝ }
 {
     let mut left = lower(words[list], words[outputs]);
     let mut next = list + 1;
@@ -221,7 +220,7 @@ fn check_tuple(
     n: u64,
 ) -> u64
     requires { ⌜ Sides-given (now kinds) (now words) (now scope) list start ⌝ }
-    ensures { λ r. ⌜ ((g : Sides-given (now (kinds .entry)) (now (words .entry)) (now (scope .entry)) list start) → Noted (g .left .scoped .model .number) q (bound-tuple (context (skeleton (g .left .scoped .model .P))) (g .left .scoped .env) (g .left .xs) (form (g .e)) members) (now (out .entry)) n r (now (out .exit))) ⌝ }
+    ensures { λ r. ⌜ ((g : Sides-given (now (kinds .entry)) (now (words .entry)) (now (scope .entry)) list start) → Noted (g .left .scoped .model .number) q (tuple-notes g members) (now (out .entry)) n r (now (out .exit))) ⌝ }
 {
     if members != words[list] {
         return put_line(out, q, n, codes::E0042, NONE, NONE);
@@ -253,7 +252,7 @@ fn check_bound(
     n: u64,
 ) -> u64
     requires { ⌜ Sides-given (now kinds) (now words) (now scope) list start × (hint .typ .levels ≤ 127) ⌝ }
-    ensures { λ r. ⌜ ((g : Sides-given (now (kinds .entry)) (now (words .entry)) (now (scope .entry)) list start) → asHint (g .left .scoped .model .text) hint ≡ wanted (g .left .scoped .env) (g .left .xs) → Noted (g .left .scoped .model .number) q (bound (context (skeleton (g .left .scoped .model .P))) (g .left .scoped .env) (g .left .xs) (form (g .e)) (some (asTy (g .left .scoped .model .text) t))) (now (out .entry)) n r (now (out .exit))) ⌝ }
+    ensures { λ r. ⌜ ((g : Sides-given (now (kinds .entry)) (now (words .entry)) (now (scope .entry)) list start) → asHint (g .left .scoped .model .text) hint ≡ wanted (g .left .scoped .env) (g .left .xs) → Noted (g .left .scoped .model .number) q (bound-notes g (some (asTy (g .left .scoped .model .text) t))) (now (out .entry)) n r (now (out .exit))) ⌝ }
 {
     if is_tuple(t) {
         return check_tuple(kinds, words, scope, list, start, t.name, q, out, n);
