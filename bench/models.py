@@ -87,11 +87,11 @@ def deep():
 
 
 def wide():
-    """A struct of 400 fields, three values of it with every field, and 400 fields read."""
+    """A struct of 400 fields, two values of it with every field, and 400 fields read, which are not typed since they stand in a tuple."""
     xs = [b"f%03d" % i for i in range(400)]
     value = [(75, b"R"), (3, 400)] + [r for x in xs for r in ((84, x), (41, 1))]
     outs = [b"r0", b"r1"]
-    reads = [equation([b"y"], [(73, 400)] + [r for x in xs for r in ((71, x), (44, b"r0"))])]
+    reads = [equation([b"y"], [(73, 1), (73, 400)] + [r for x in xs for r in ((71, x), (44, b"r0"))])]
     return project([[(5, b"R"), *ports(*[port(x, INT32) for x in xs])]], [],
                    [node(b"n", 11, [], [port(x, RECORD) for x in outs] + [port(b"y", INT32)], [], [equation([x], value) for x in outs] + reads)])
 
