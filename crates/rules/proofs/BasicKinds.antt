@@ -3,7 +3,7 @@ use Prim.Native.Nat.{ℕ, _<_}
 use native.Mathlib.Omega.{arith}
 use mathlib.Core.Path.{_≡_, refl, sym, _∙_}
 use mathlib.Core.Bool.{Bool, true, false, _&&_}
-use lib.Dec.{eqb, leb}
+use lib.Dec.{leb}
 use borrow.Author.Tests.{eq-eqb, ne-eqb, leb-true, lt-leb}
 use Rattle.lustre.specs.Types.{Ty, basic, Array, Named, Tuple, within, is-bool, same-type}
 use Rattle.types.specs.Scope.{kind-of}

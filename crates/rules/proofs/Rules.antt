@@ -3,11 +3,9 @@
 use Prim.Native.Nat.{ℕ, _<_}
 use native.Mathlib.Omega.{arith}
 use mathlib.Core.Path.{_≡_, refl, sym, _∙_}
-use mathlib.Core.Bool.{Bool, true, false}
 use mathlib.Core.List.{List}
 use mathlib.Core.Option.{Option, none, some}
-use lib.Dec.{eqb}
-use borrow.Author.Tests.{ne-eqb, le-leb, lt-leb, eqb-true, eqb-false}
+use borrow.Author.Tests.{ne-eqb, le-leb, lt-leb}
 use Rattle.lustre.specs.Name.{Name, find}
 use Rattle.lustre.specs.Types.{Ty, basic, Array, Named, Tuple}
 use Rattle.lustre.specs.Expr.{UnaryOp, Not, Neg}
@@ -16,7 +14,7 @@ use Rattle.lustre.specs.Project.{Port}
 use Rattle.lustre.specs.Line.{Note, plain, named, return, fail}
 use Rattle.lustre.specs.Resolve.{Scope}
 use Rattle.lustre.specs.Infer.{if-found, literal-rule, var-rule, field-of, array-type, element-of}
-use Rattle.types.specs.Value.{Naming, bottom, asTy, Known, ArrayOf}
+use Rattle.types.specs.Value.{Naming, asTy, Known, ArrayOf}
 use Rattle.types.specs.Number.{basic-of, KindIs}
 use Rattle.types.specs.declared.Typ.{Typ}
 use Rattle.types.proofs.Values.{bottom-cases, bottom-basic, bottom-name, view-flat, view-array}

@@ -8,7 +8,7 @@ pub mod literal;
 pub mod records;
 
 ghost use mathlib.Core.Path.{_≡_};
-ghost use mathlib.Core.Bool.{_&&_, false};
+ghost use mathlib.Core.Bool.{_&&_};
 ghost use Prim.Native.Nat.{_+_, _<_, _≤_};
 ghost use lib.Dec.{leb};
 ghost use mathlib.Core.Option.{none, some};
