@@ -8,7 +8,7 @@ use mathlib.Core.Option.{Option, none, some}
 use native.Mathlib.Omega.{arith}
 use lib.ListN.{getD}
 use borrow.Author.Tests.{eq-eqb, ne-eqb}
-use Rattle.lustre.specs.Types.{Ty, Named, Tuple}
+use Rattle.lustre.specs.Types.{Ty, Named}
 use Rattle.lustre.specs.Resolve.{Aliases, array-of, follow-alias, try-resolve, or-itself, resolve}
 use Rattle.types.specs.Value.{Naming, bottom, up, asTy, maybe, Known, Around}
 use Rattle.types.specs.Place.{tyAt, Read}

@@ -54,10 +54,6 @@ pub bottom-name : (ρ : Naming) (k n : ℕ) → k ≡ 33 → bottom ρ k n ≡ N
 unfolding bottom
 bottom-name ρ k n h = rw (eq-eqb k 33 h)
 
-pub bottom-tuple : (ρ : Naming) (k n : ℕ) → k ≡ 34 → bottom ρ k n ≡ Tuple n
-unfolding bottom
-bottom-tuple ρ k n h = rw h
-
 -- what holds of a name, a tuple and a basic type holds of a bottom
 pub bottom-cases : (P : Ty → Type 0) (ρ : Naming) (k n : ℕ) → (k ≡ 33 → P (Named (ρ n))) → (k ≡ 34 → P (Tuple n)) → ((k ≡ 33 → ⊥) → (k ≡ 34 → ⊥) → P (basic k)) → P (bottom ρ k n)
 unfolding bottom
