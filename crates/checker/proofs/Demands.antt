@@ -18,12 +18,13 @@ use Rattle.demands.specs.Demand3 as Given
 use Rattle.demands.specs.Demand3.{Said, said, about}
 use Rattle.demands.proofs.Calls.{spoken}
 use Rattle.demands.proofs.Demand3 as Proved
+use Rattle.demands.proofs.OneEquation as Moves
 use Rattle.lines.specs.Lines.{room}
 use Rattle.project.specs.Call.{buffer-after}
 use Rattle.project.specs.Demands as Words
 use Rattle.project.specs.Demands.{loop-lines}
 use Rattle.project.proofs.Demands as Words-proved
-use Rattle.checker.specs.Demands.{Check, Reported, project, lines-of, Reports, Demand-3, Unused-names, No-records, No-stray, Searched-lines, Demand-2-loops}
+use Rattle.checker.specs.Demands.{Check, Reported, project, lines-of, Reports, Demand-3, One-equation, Tree-meant, Some-equations, Unused-names, No-records, No-stray, Searched-lines, Demand-2-loops}
 
 -- ---- the call as the definition has it
 
@@ -45,6 +46,16 @@ lines-spoken c r = same-lines c r ∙ Proved.lines-spoken (call c) (given c r)
 -- demand 3, by that of the definition
 pub demand-3 : Demand-3
 demand-3 c d r s e = rw (same-lines c r, same-lines d s) (Proved.demand-3 (call c) (call d) (given c r) (given d s) e)
+
+-- what one equation can move, that a tree is meant, and what some equations of a node can move, by the same
+pub one-equation : One-equation
+one-equation c d r s i j e = rw (same-lines c r, same-lines d s) (Moves.one-equation (call c) (call d) (given c r) (given d s) i j e)
+
+pub tree-meant : Tree-meant
+tree-meant c d r s i j = Moves.tree-meant (call c) (call d) (given c r) (given d s) i j
+
+pub some-equations : Some-equations
+some-equations c d r s e i js part = rw (same-lines c r, same-lines d s) (Moves.some-equations (call c) (call d) (given c r) (given d s) e i js part)
 
 -- every number of a name is a name's, by the same
 pub no-stray : No-stray

@@ -16,13 +16,13 @@ use Rattle.lustre.specs.Records.{bad-record}
 use Rattle.lustre.specs.Project.{Project}
 use Rattle.lustre.specs.Line.{Line}
 use Rattle.lustre.specs.Report.{report, followed}
-use Rattle.lustre.specs.Answer.{answer, lowest, reported, refusal-of, first-of, no-project, project-of, writes, over, lines-after, stored, stored-report, no-value, or-none, name-word, place-number}
+use Rattle.lustre.specs.Answer.{answer, lowest, reported, refusal-of, first-of, no-project, writes, over, lines-after, stored, stored-report, no-value, or-none, name-word, place-number}
 use Rattle.lustre.specs.declared.Line as Stored
 use Rattle.lustre.specs.declared.Answer.the-variants.{Report, MoreLines}
 use Rattle.lustre.proofs.Lowest.{reports, passes}
 use Rattle.demands.specs.Reading.{Each}
 use Rattle.demands.specs.Naming.{Named}
-use Rattle.demands.specs.Demand3.{Call, Reported, project-records, Mention, no-name, the-name, mention, Said, said, lines-of}
+use Rattle.demands.specs.Demand3.{Call, Reported, project-records, project, Mention, no-name, the-name, mention, Said, said, lines-of}
 use Rattle.demands.proofs.Known.{Known-name}
 
 -- a report's lines fit the room
@@ -34,10 +34,6 @@ fitted room P n e = go (leb (length (report P)) room) refl
         → (length (report P) ≤ room) × (length (report P) ≡ n)
     go true t q = (leb-true (length (report P)) room t, ap first-of q)
     go false t q = absurd (omega (arith, ap refusal-of q))
-
--- the project of a call
-abbrev pub project : Call → Project
-project c = project-of (c .kinds) (c .words) (c .text)
 
 -- what a call that gets a report has passed
 pub record Passed (c : Call) (count : ℕ) : Type 0 where

@@ -20,7 +20,7 @@ use Rattle.lustre.proofs.Blank.{read-as-lent, of-both, blank-project}
 use Rattle.demands.specs.Parts.{node-part}
 use Rattle.demands.specs.Nodes.{is-node, about-node, about-none}
 use Rattle.demands.specs.Reading.{Each, Writable, Writable-node, Writable-package, Tidy, part-of}
-use Rattle.demands.specs.Demand3.{Call, Reported, project-records, Said, stray, lines-of, about, about-no-node, Demand-3, No-stray}
+use Rattle.demands.specs.Demand3.{Call, Reported, project-records, project, Said, stray, lines-of, about, about-no-node, Demand-3, No-stray}
 use Rattle.demands.proofs.Keeps.{keep-map}
 use Rattle.demands.proofs.Known.{Known-records}
 use Rattle.demands.proofs.Eaches.{If-some, each-append}
@@ -30,10 +30,10 @@ use Rattle.demands.proofs.Reading.{same-parts, spelled-tidy, whole-proj
 use Rattle.demands.proofs.NodeParts.{node-parts, same-skeleton}
 use Rattle.demands.proofs.RecordNames.{project-known, spelled-known}
 use Rattle.demands.proofs.ReportNames.{report-known}
-use Rattle.demands.proofs.Calls.{project, passed, reported-lines, spoken-name, spoken, said-lines}
+use Rattle.demands.proofs.Calls.{passed, reported-lines, spoken-name, spoken, said-lines}
 
 -- place kind 4 is node
-four : (p : Place) → eqb (place-number p) 4 ≡ is-node p
+pub four : (p : Place) → eqb (place-number p) 4 ≡ is-node p
 unfolding place-number
 four at-package = refl
 four at-enum = refl
@@ -55,22 +55,22 @@ unfolding spoken-name
 never-stray none w e = let z : _≡_ {A = ℕ} 0 1 = cc in omega arith
 never-stray (some x) w e = let z : _≡_ {A = ℕ} 0 1 = cc in omega arith
 
-writable-at : (ns : List Node) (i : ℕ) → Each Writable-node ns → If-some Writable-node (getElem? ns i)
+pub writable-at : (ns : List Node) (i : ℕ) → Each Writable-node ns → If-some Writable-node (getElem? ns i)
 writable-at [] i h = tt
 writable-at (n ∷ ns) zero h = h .0
 writable-at (n ∷ ns) (suc i) h = writable-at ns i (h .1)
 
-writable-nodes : (P : Project) → Each Writable-package P → Each Writable-node (all-nodes P)
+pub writable-nodes : (P : Project) → Each Writable-package P → Each Writable-node (all-nodes P)
 unfolding all-nodes
 writable-nodes [] h = tt
 writable-nodes (p ∷ ps) h = each-append Writable-node (p .nodes) (all-nodes ps) (h .0 .2) (writable-nodes ps (h .1))
 
-tidy : (c : Call) → Tidy (project-records c)
+pub tidy : (c : Call) → Tidy (project-records c)
 unfolding spelled spell-as word-class class-in word-classes mem each-of
 tidy c = of-both (c .kinds) (c .words) (c .text) Tidy (refl, tt) (spelled-tidy (name-at (names-of (c .text))) (c .kinds) (c .words))
 
 -- nodes of equal records are equal
-same-node : (m n : Option Node) → If-some Writable-node m → If-some Writable-node n → part-of m ≡ part-of n → m ≡ n
+pub same-node : (m n : Option Node) → If-some Writable-node m → If-some Writable-node n → part-of m ≡ part-of n → m ≡ n
 same-node none none v w e = refl
 same-node none (some n) v w e = cc
 same-node (some m) none v w e = cc
@@ -78,7 +78,7 @@ same-node (some m) (some n) v w e = ap some (same-parts (one a-node) m n [] [] v
 
 module _ (c : Call) (r : Reported c) where
   -- the records that the project is read from are its flattening, and their names are among the names lent
-  whole : Writable (one a-project) (project c) × (project-records c ≡ flat-project (project c) [])
+  pub whole : Writable (one a-project) (project c) × (project-records c ≡ flat-project (project c) [])
   unfolding project-of
   whole = whole-project (project-records c) (tidy c) (passed c r .tree)
 
@@ -111,7 +111,7 @@ module _ (c : Call) (r : Reported c) where
     node-told = rw (lines-spoken, about-spoken i (report (project c)), judged-alone .node-is (project c) i)
 
     -- node i's records are the records of the tree's node i
-    part-is : node-part i (project-records c) ≡ part-of node
+    pub part-is : node-part i (project-records c) ≡ part-of node
     unfolding project-of
     part-is = node-parts (project-records c) (tidy c) (passed c r .tree) i
 

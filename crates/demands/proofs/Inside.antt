@@ -25,23 +25,26 @@ pub data Inner (barred : List ℕ) : (List Rec → List Rec) → Type 0 where
   done : Inner barred (λ k. k)
   next : {F : List Rec → List Rec} (r : Rec) → mem eqb (r .kind) barred ≡ false → Inner barred F → Inner barred (λ k. r ∷ F k)
 
--- the kinds of nodes; with them that of packages; and with these that of lists
+-- the kinds of nodes; with them that of packages; with these that of equations; and with these that of lists
 abbrev pub nodes-only : List ℕ
 nodes-only = 10 ∷ 11 ∷ 12 ∷ []
 
 abbrev pub bounds : List ℕ
 bounds = 2 ∷ nodes-only
 
+abbrev pub equations-too : List ℕ
+equations-too = 13 ∷ bounds
+
 abbrev pub lists-too : List ℕ
-lists-too = 3 ∷ bounds
+lists-too = 3 ∷ equations-too
 
 infixr 30 _then_
-_then_ : {bs : List ℕ} {F G : List Rec → List Rec} → Inner bs F → Inner bs G → Inner bs (λ k. F (G k))
+pub _then_ : {bs : List ℕ} {F G : List Rec → List Rec} → Inner bs F → Inner bs G → Inner bs (λ k. F (G k))
 done then j = j
 next r p i then j = next r p (i then j)
 
 -- what is not in a longer list is not its first and not in the shorter
-not-mem : (a b : ℕ) (bs : List ℕ) → mem eqb a (b ∷ bs) ≡ false → (eqb a b ≡ false) × (mem eqb a bs ≡ false)
+pub not-mem : (a b : ℕ) (bs : List ℕ) → mem eqb a (b ∷ bs) ≡ false → (eqb a b ≡ false) × (mem eqb a bs ≡ false)
 unfolding mem
 not-mem a b bs = go (eqb a b) refl
   where
@@ -53,8 +56,11 @@ pub fewer-barred : {b : ℕ} {bs : List ℕ} {F : List Rec → List Rec} → Inn
 fewer-barred done = done
 fewer-barred {b} {bs} (next r p i) = next r (not-mem (r .kind) b bs p .1) (fewer-barred i)
 
+within-node : {F : List Rec → List Rec} → Inner lists-too F → Inner bounds F
+within-node i = fewer-barred (fewer-barred i)
+
 -- a walk that keeps each record of no barred kind keeps them all, and one that drops each drops them all
-kept : {bs : List ℕ} (f : List Rec → List Rec) → ((r : Rec) (k : List Rec) → mem eqb (r .kind) bs ≡ false → f (r ∷ k) ≡ r ∷ f k)
+pub kept : {bs : List ℕ} (f : List Rec → List Rec) → ((r : Rec) (k : List Rec) → mem eqb (r .kind) bs ≡ false → f (r ∷ k) ≡ r ∷ f k)
     → {F : List Rec → List Rec} → Inner bs F → (k : List Rec) → f (F k) ≡ F (f k)
 kept f h done k = refl
 kept f h (next {F} r p i) k = h r (F k) p ∙ ap (λ (x : List Rec). r ∷ x) (kept f h i k)
@@ -95,7 +101,7 @@ unfolding shown show within
 lists-in n = kept (shown (lists n)) one
   where
     one : (r : Rec) (k : List Rec) → mem eqb (r .kind) lists-too ≡ false → shown (lists n) (r ∷ k) ≡ r ∷ shown (lists n) k
-    one r k p = let e : within (lists n) (r .kind) ≡ lists n = rw (not-mem (r .kind) 3 _ p .0, within) in rw (view-in (lists n) (r .kind) (not-mem (r .kind) 3 _ p .1), e)
+    one r k p = let e : within (lists n) (r .kind) ≡ lists n = rw (not-mem (r .kind) 3 _ p .0, within) in rw (view-in (lists n) (r .kind) (not-mem (r .kind) 13 _ (not-mem (r .kind) 3 _ p .1) .1), e)
 
 -- a basic type's kind is no other kind
 differs : (b c : ℕ) → mem eqb b basic-kinds ≡ true → mem eqb c basic-kinds ≡ false → eqb b c ≡ false
@@ -107,7 +113,7 @@ differs b c p q = go (eqb b c) refl
 
 basic-in : (b : ℕ) → mem eqb b basic-kinds ≡ true → mem eqb b lists-too ≡ false
 unfolding mem
-basic-in b h = rw (differs b 3 h refl, mem, differs b 2 h refl, mem, differs b 10 h refl, mem, differs b 11 h refl, mem, differs b 12 h refl, mem)
+basic-in b h = rw (differs b 3 h refl, mem, differs b 13 h refl, mem, differs b 2 h refl, mem, differs b 10 h refl, mem, differs b 11 h refl, mem, differs b 12 h refl, mem)
 
 in-type : (t : Ty) → Writable-type t → Inner lists-too (flat-type t)
 unfolding flat-type Writable-type mem
@@ -116,15 +122,15 @@ in-type (Array n t) h = next _ refl (in-type t h)
 in-type (Named x) h = next _ refl done
 in-type (Tuple n) h = absurd h
 
-in-literal : (l : Literal) → ends-node (literal-kind l) ≡ false
+in-literal : (l : Literal) → mem eqb (literal-kind l) equations-too ≡ false
 unfolding mem
 in-literal = elim [ bool ↦ refl | int ↦ refl | float ↦ refl | char ↦ refl ]
 
-in-unary : (o : UnaryOp) → ends-node (unary-kind o) ≡ false
+in-unary : (o : UnaryOp) → mem eqb (unary-kind o) equations-too ≡ false
 unfolding mem
 in-unary = elim [ Not ↦ refl | Neg ↦ refl ]
 
-in-op : (o : BinOp) → ends-node (op-kind o) ≡ false
+in-op : (o : BinOp) → mem eqb (op-kind o) equations-too ≡ false
 unfolding mem
 in-op = elim [
   | And ↦ refl
@@ -149,18 +155,18 @@ in-op = elim [
   | Shr ↦ refl
 ]
 
-in-when : (b : Bool) → ends-node (when-kind b) ≡ false
+in-when : (b : Bool) → mem eqb (when-kind b) equations-too ≡ false
 unfolding mem
 in-when = elim [ true ↦ refl | false ↦ refl ]
 
-in-iterate : (i : IterKind) → (ends-node (iterate-kind i) ≡ false) × (ends-node (iterate-from-kind i) ≡ false)
+in-iterate : (i : IterKind) → (mem eqb (iterate-kind i) equations-too ≡ false) × (mem eqb (iterate-from-kind i) equations-too ≡ false)
 unfolding mem
 in-iterate = elim [ Map ↦ (refl, refl) | Fold ↦ (refl, refl) ]
 
 mutual
   unfolding flat Writable-expr mem
 
-  in-expr : (e : Expr) → Writable-expr e → Inner bounds (flat e)
+  pub in-expr : (e : Expr) → Writable-expr e → Inner equations-too (flat e)
   in-expr (const l w) h = next _ (in-literal l) done
   in-expr (var x) h = next _ refl done
   in-expr (unary o e) h = next _ (in-unary o) (in-expr e h)
@@ -180,11 +186,11 @@ mutual
   in-expr (iterate k f es) h = next _ (in-iterate k .0) (next _ refl (in-exprs es h))
   in-expr (iterate-from k f s es) h = next _ (in-iterate k .1) (in-expr s (h .0) then next _ refl (in-exprs es (h .1)))
 
-  in-exprs : (es : Exprs) → Writable-exprs es → Inner bounds (flats es)
+  in-exprs : (es : Exprs) → Writable-exprs es → Inner equations-too (flats es)
   in-exprs []ᵉ h = done
   in-exprs (e ∷ᵉ es) h = in-expr e (h .0) then in-exprs es (h .1)
 
-  in-inits : (is : Inits) → Writable-inits is → Inner bounds (flatsⁱ is)
+  in-inits : (is : Inits) → Writable-inits is → Inner equations-too (flatsⁱ is)
   in-inits []ⁱ h = done
   in-inits (init x e is) h = next _ refl (in-expr e (h .0) then in-inits is (h .1))
 
@@ -198,7 +204,7 @@ pub in-ports : (ps : List Port) → Writable-ports ps → Inner lists-too (each-
 unfolding mem
 in-ports = in-each flat-port (λ p. Writable-type (p .1)) (λ p h. next _ refl (in-type (p .1) h))
 
-in-names : (xs : List Name) → Inner bounds (each-of flat-name xs)
+pub in-names : (xs : List Name) → Inner equations-too (each-of flat-name xs)
 unfolding each-of mem
 in-names [] = done
 in-names (x ∷ xs) = next _ refl (in-names xs)
@@ -210,31 +216,31 @@ in-list f xs i = next _ refl i
 
 in-decl : (d : Decl) → Writable-decl d → Inner bounds (flat-decl d)
 unfolding flat-decl Writable-decl mem
-in-decl (Alias x t) h = next _ refl (fewer-barred (in-type t h))
-in-decl (Record x ps) h = next _ refl (in-list flat-port ps (fewer-barred (in-ports ps h)))
-in-decl (Enum x vs) h = next _ refl (in-list flat-name vs (in-names vs))
+in-decl (Alias x t) h = next _ refl (within-node (in-type t h))
+in-decl (Record x ps) h = next _ refl (in-list flat-port ps (within-node (in-ports ps h)))
+in-decl (Enum x vs) h = next _ refl (in-list flat-name vs (fewer-barred (in-names vs)))
 
 in-constant : (c : Constant) → Writable-constant c → Inner bounds (flat-constant c)
 unfolding mem
-in-constant c h = next _ refl (fewer-barred (in-type (c .type) (h .0)) then in-expr (c .value) (h .1))
+in-constant c h = next _ refl (within-node (in-type (c .type) (h .0)) then fewer-barred (in-expr (c .value) (h .1)))
 
 in-equation : (q : Equation) → Writable-expr (q .rhs) → Inner bounds (flat-equation q)
 unfolding mem
-in-equation q h = next _ refl (in-list flat-name (q .lhs) (in-names (q .lhs)) then in-expr (q .rhs) h)
+in-equation q h = next _ refl (in-list flat-name (q .lhs) (fewer-barred (in-names (q .lhs))) then fewer-barred (in-expr (q .rhs) h))
 
 -- a node's locals, equations and probes
 abbrev pub flat-body : Node → List Rec → List Rec
 flat-body n k = list-of flat-port (n .locals) (list-of flat-equation (n .equations) (list-of flat-name (n .probes) k))
 
 pub in-body : (n : Node) → Writable-node n → Inner bounds (flat-body n)
-in-body n h = in-list flat-port (n .locals) (fewer-barred (in-ports (n .locals) (h .2)))
+in-body n h = in-list flat-port (n .locals) (within-node (in-ports (n .locals) (h .2)))
     then in-list flat-equation (n .equations) (in-each flat-equation (λ q. Writable-expr (q .rhs)) in-equation (n .equations) (h .3))
-    then in-list flat-name (n .probes) (in-names (n .probes))
+    then in-list flat-name (n .probes) (fewer-barred (in-names (n .probes)))
 
 -- a node without its first record
 pub in-node : (n : Node) → Writable-node n → Inner bounds (λ k. list-of flat-port (n .inputs) (list-of flat-port (n .outputs) (flat-body n k)))
-in-node n h = in-list flat-port (n .inputs) (fewer-barred (in-ports (n .inputs) (h .0)))
-    then in-list flat-port (n .outputs) (fewer-barred (in-ports (n .outputs) (h .1))) then in-body n h
+in-node n h = in-list flat-port (n .inputs) (within-node (in-ports (n .inputs) (h .0)))
+    then in-list flat-port (n .outputs) (within-node (in-ports (n .outputs) (h .1))) then in-body n h
 
 -- a package's types and constants, and the number of its nodes
 pub in-opening : (p : Package) → Writable-package p

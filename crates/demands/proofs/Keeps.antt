@@ -23,6 +23,18 @@ keep-map f g h e (x ∷ xs) = rw (e x) (go (h x) (keep-map f g h e xs))
     go true k = ap (λ r. g x ∷ r) k
     go false k = k
 
+-- of two tests either may come first
+pub keep-swap : {A : Type 0} (f g : A → Bool) (xs : List A) → keep f (keep g xs) ≡ keep g (keep f xs)
+keep-swap f g [] = refl
+keep-swap f g (x ∷ xs) = go (f x) refl (g x) refl (keep-swap f g xs)
+  where
+    go : (s : Bool) → f x ≡ s → (t : Bool) → g x ≡ t → keep f (keep g xs) ≡ keep g (keep f xs)
+        → keep f (if t then x ∷ keep g xs else keep g xs) ≡ keep g (if s then x ∷ keep f xs else keep f xs)
+    go true a true b e = rw (a, b) (ap (λ r. x ∷ r) e)
+    go true a false b e = rw b e
+    go false a true b e = rw a e
+    go false a false b e = e
+
 -- nothing of the list is kept
 pub record Lacks {A : Type 0} (f : A → Bool) (l : List A) : Type 0 where
   pub none-kept : keep f l ≡ []

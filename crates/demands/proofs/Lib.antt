@@ -25,3 +25,8 @@ pub mod RecordNames
 pub mod ReportNames
 pub mod Calls
 pub mod Demand3
+pub mod Replace
+pub mod Apart
+pub mod Masked
+pub mod MaskedRows
+pub mod OneEquation

@@ -38,7 +38,7 @@ record Rest (k : List Rec) (ms : List Node) (o : List Rec) : Type 0 where
   part : (i : ℕ) → node-part i k ≡ part-of (getElem? ms i)
   seen : (s : View) → shown s k ≡ o
 
-starts : (c : NodeKind) → (starts-node (node-kind c) ≡ true) × (ends-node (node-kind c) ≡ true)
+pub starts : (c : NodeKind) → (starts-node (node-kind c) ≡ true) × (ends-node (node-kind c) ≡ true)
 unfolding mem
 starts = elim [ Function ↦ (refl, refl) | Operator ↦ (refl, refl) | Imported ↦ (refl, refl) ]
 
@@ -81,7 +81,7 @@ rest-packages [] h = record { ends = refl; part = λ i. refl; seen = λ s. refl 
 rest-packages (p ∷ P) h = rest-package p (h .0) (rest-packages P (h .1))
 
 -- the walks over a whole project
-node-of : (P : Project) → Each Writable-package P → (i : ℕ) → node-part i (flat-project P []) ≡ part-of (getElem? (all-nodes P) i)
+pub node-of : (P : Project) → Each Writable-package P → (i : ℕ) → node-part i (flat-project P []) ≡ part-of (getElem? (all-nodes P) i)
 unfolding mem
 node-of P h i = node-part-in i (next (numbered-rec 1 (length P)) refl done) _ ∙ rest-packages P h .part i
 

@@ -9,8 +9,9 @@ use lib.ListN.{length, take}
 use Rattle.lustre.specs.Name.{Name}
 use Rattle.lustre.specs.Names.{names-of, name-at}
 use Rattle.lustre.specs.Records.{Rec}
+use Rattle.lustre.specs.Project.{Project}
 use Rattle.lustre.specs.Answer as Answer
-use Rattle.lustre.specs.Answer.{answer, lines-after, no-value}
+use Rattle.lustre.specs.Answer.{answer, project-of, lines-after, no-value}
 use Rattle.lustre.specs.declared.Line.{Line}
 use Rattle.lustre.specs.declared.Answer.the-variants.{Report}
 use Rattle.demands.specs.Parts.{all, shown, node-part}
@@ -33,6 +34,10 @@ pub record Reported (c : Call) : Type 0 where
 -- the records that its project is read from, where a name word counts as its name's text
 abbrev pub project-records : Call → List Rec
 project-records c = Answer.project-records (c .kinds) (c .words) (c .text)
+
+-- the project that they are
+abbrev pub project : Call → Project
+project c = project-of (c .kinds) (c .words) (c .text)
 
 -- a name field: none, a name's text, or a number that is no name's
 pub data Mention : Type 0 where

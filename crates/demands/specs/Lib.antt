@@ -6,3 +6,4 @@ pub mod Inference
 pub mod Tuples
 pub mod Naming
 pub mod Demand3
+pub mod OneEquation

@@ -31,10 +31,11 @@ use Rattle.demands.proofs.Keeps.{keep-map}
 use Rattle.demands.proofs.Calls.{passed, reported-lines, spoken-name, spoken}
 use Rattle.demands.proofs.Loops as Loops-proved
 use Rattle.demands.proofs.Demand3 as Proved
+use Rattle.demands.proofs.OneEquation as Moves
 use Rattle.lines.specs.Lines.{words, room, line-in}
 use Rattle.project.specs.Call.{over-words, buffer-after}
 use Rattle.project.proofs.Answers.{answer-report, nothing-stored}
-use Rattle.project.specs.Demands.{Check, Reported, project, lines-in, lines-of, Report-of, Demand-3, Unused-names, No-records, No-stray, loop-lines, path-lines, shown-lines, Searched-lines, Demand-2-loops}
+use Rattle.project.specs.Demands.{Check, Reported, project, lines-in, lines-of, Report-of, Demand-3, One-equation, Tree-meant, Some-equations, Unused-names, No-records, No-stray, loop-lines, path-lines, shown-lines, Searched-lines, Demand-2-loops}
 
 -- ---- lines in a buffer
 
@@ -127,6 +128,16 @@ module _ (c : Check) (r : Reported c) where
 -- demand 3, by that of the definition
 pub demand-3 : Demand-3
 demand-3 c d r s e = rw (same-lines c r, same-lines d s) (Proved.demand-3 (call c) (call d) (given c r) (given d s) e)
+
+-- what one equation can move, that a tree is meant, and what some equations of a node can move, by the same
+pub one-equation : One-equation
+one-equation c d r s i j e = rw (same-lines c r, same-lines d s) (Moves.one-equation (call c) (call d) (given c r) (given d s) i j e)
+
+pub tree-meant : Tree-meant
+tree-meant c d r s i j = Moves.tree-meant (call c) (call d) (given c r) (given d s) i j
+
+pub some-equations : Some-equations
+some-equations c d r s e i js part = rw (same-lines c r, same-lines d s) (Moves.some-equations (call c) (call d) (given c r) (given d s) e i js part)
 
 -- equal records are one project, and a report's lines, with names as texts, and edges are functions of it
 pub unused-names : Unused-names
