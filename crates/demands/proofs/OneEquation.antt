@@ -76,7 +76,7 @@ one-equation c d r s i j e =
 
 -- ---- some equations of a node
 
--- `false` for their right-hand sides
+-- `false` for their right-hand sides, one after the other; it can be written, and its records, skeleton and other lines are as expected
 unfoldable mask-all : ℕ → List ℕ → Project → Project
 mask-all i [] P = P
 mask-all i (j ∷ js) P = mask i j (mask-all i js P)
@@ -107,6 +107,7 @@ all-replaced i js (k ∷ ks) h P =
     behind m true e = refl
     behind m false e = e
 
+-- an imported node stays one, and all its lines stay
 all-still : (i : ℕ) (js : List ℕ) (P : Project) → imported (mask-all i js P) i ≡ imported P i
 unfolding mask-all
 all-still i [] P = refl
