@@ -55,7 +55,7 @@ pub tree-meant : Tree-meant
 tree-meant c d r s i j = Moves.tree-meant (call c) (call d) (given c r) (given d s) i j
 
 pub some-equations : Some-equations
-some-equations c d r s e i js part = rw (same-lines c r, same-lines d s) (Moves.some-equations (call c) (call d) (given c r) (given d s) e i js part)
+some-equations c d r s i js e part = rw (same-lines c r, same-lines d s) (Moves.some-equations (call c) (call d) (given c r) (given d s) i js e part)
 
 -- every number of a name is a name's, by the same
 pub no-stray : No-stray

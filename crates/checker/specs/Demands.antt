@@ -1,16 +1,15 @@
--- Demand 3, and demand 2's sentence on E0060, of the function `check_project`: what holds of all calls that it answers with a report. A name in
+-- Demand 3, what one equation can move, and demand 2's sentence on E0060, of the function `check_project`: what holds of all calls that it answers with a report. A name in
 -- a line counts as its text.
 -- Assumes nothing: these are definitions and statements, proved in proofs/.
 use Prim.Native.Nat.{ℕ, _≤_}
 use mathlib.Core.Path.{_≡_}
 use mathlib.Core.Bool.{true, false}
-use mathlib.Core.List.{List, [], _∷_, map, List·Memᴰ}
+use mathlib.Core.List.{List, [], map, List·Memᴰ}
 use mathlib.Core.Option.{some}
 use lib.ListN.{length, getElem?, take}
 use Rattle.lustre.specs.Name.{Name}
 use Rattle.lustre.specs.Names.{names-of}
 use Rattle.lustre.specs.Records.{Rec}
-use Rattle.lustre.specs.Expr.{Expr}
 use Rattle.lustre.specs.Project.{Equation, Node, Function, Operator, Imported, Project, all-nodes}
 use Rattle.lustre.specs.Grammar.{flat-node, flat-project}
 use Rattle.lustre.specs.Walk.{dfs-search, rust-search}
@@ -23,7 +22,7 @@ use Rattle.lustre.specs.declared.Answer.the-variants.{Report}
 use Rattle.demands.specs.Parts.{all, shown, node-part}
 use Rattle.demands.specs.Loops.{Closed, Cyclic, No-arrows}
 use Rattle.demands.specs.Demand3.{stray, Said, said, about, about-no-node}
-use Rattle.demands.specs.OneEquation.{masked, masked-all, is-imported, others, replace}
+use Rattle.demands.specs.OneEquation.{One-moves, Some-move, Replaces}
 use Rattle.project.specs.Demands.{loop-lines, path-lines, shown-lines, Without-records}
 use Rattle.checker.specs.Call.{Checked}
 
@@ -85,25 +84,18 @@ Demand-3 = (c d : Check) (r : Reported c) (s : Reported d)
 -- node i: all lines but that equation's and that node's E0060 are equal, in order, and where the node is imported all lines are.
 abbrev pub One-equation : Type 0
 One-equation = (c d : Check) (r : Reported c) (s : Reported d) (i j : ℕ)
-    → masked i j (project-records c) ≡ masked i j (project-records d)
-    → (others i (j ∷ []) (lines-of c r) ≡ others i (j ∷ []) (lines-of d s))
-    × (is-imported (node-part i (project-records c)) ≡ true → lines-of c r ≡ lines-of d s)
+    → One-moves i j (project-records c) (project-records d) (lines-of c r) (lines-of d s)
 
 -- That a tree is meant: the records are so exactly if the second project is the first with another right-hand side there.
 abbrev pub Tree-meant : Type 0
 Tree-meant = (c d : Check) (r : Reported c) (s : Reported d) (i j : ℕ)
-    → (masked i j (project-records c) ≡ masked i j (project-records d) → (new : Expr) × (project d ≡ replace new i j (project c)))
-    × ((new : Expr) → project d ≡ replace new i j (project c) → masked i j (project-records c) ≡ masked i j (project-records d))
+    → Replaces i j (project-records c) (project-records d) (project c) (project d)
 
 -- The same of each node by itself, and of several of its equations: the projects differ at most in nodes' locals, equations and probes, and in
 -- node i at most in the right-hand sides of the equations js.
 abbrev pub Some-equations : Type 0
-Some-equations = (c d : Check) (r : Reported c) (s : Reported d)
-    → shown all (project-records c) ≡ shown all (project-records d)
-    → (i : ℕ) (js : List ℕ)
-    → node-part i (masked-all i js (project-records c)) ≡ node-part i (masked-all i js (project-records d))
-    → (about i (others i js (lines-of c r)) ≡ about i (others i js (lines-of d s)))
-    × (is-imported (node-part i (project-records c)) ≡ true → about i (lines-of c r) ≡ about i (lines-of d s))
+Some-equations = (c d : Check) (r : Reported c) (s : Reported d) (i : ℕ) (js : List ℕ)
+    → Some-move i js (project-records c) (project-records d) (lines-of c r) (lines-of d s)
 
 -- Two editions of a model that differ only in unused names get equal lines, where both get a report (request 2.2). Their records are then
 -- equal with each name as its text, whatever its number; the number of edges followed is the same too.

@@ -88,9 +88,10 @@ unfolding mem
 body-masked j n k w z =
     let probes = list-of flat-name (n .probes) k in
     let counted = numbered-rec 3 (length (n .equations)) in
+    let replaced = replace-equations literal-false j (n .equations) in
     mask-in-kept j (in-ports-of n w then next counted refl done) (each-of flat-equation (n .equations) probes)
     ∙ ap (λ r. ports-of n (counted ∷ r)) (equations-masked j (n .equations) (n .probes) k (w .3) z)
-    ∙ ap (λ (m : ℕ). ports-of n (numbered-rec 3 m ∷ each-of flat-equation (replace-equations literal-false j (n .equations)) probes)) (sym (equations-many literal-false j (n .equations)))
+    ∙ ap (λ (m : ℕ). ports-of n (numbered-rec 3 m ∷ each-of flat-equation replaced probes)) (sym (equations-many literal-false j (n .equations)))
 
 -- what starts a node or a package has no equation of the node before
 ends-at : (r : Rec) (k : List Rec) → ends-node (r .kind) ≡ true → Ends (r ∷ k)

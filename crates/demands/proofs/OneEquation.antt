@@ -11,6 +11,7 @@ use borrow.Author.Tests.{eq-eqb}
 use Rattle.lustre.specs.Name.{mem}
 use Rattle.lustre.specs.Project.{Node, Project, skeleton, all-nodes}
 use Rattle.lustre.specs.Grammar.{flat-project}
+use Rattle.lustre.specs.Line.{Line}
 use Rattle.lustre.specs.Report.{report}
 use Rattle.lustre.specs.Answer.{project-of}
 use Rattle.demands.specs.Parts.{node-part}
@@ -62,9 +63,10 @@ one-equation c d r s i j e =
     let Q = project d in
     let same = trees c d r s i j .0 e in
     let own : mem eqb j (j ∷ []) ≡ true = rw (eq-eqb j j refl, mem) in
-    let apart : (R : Project) → other-lines i (j ∷ []) (report R) ≡ other-lines i (j ∷ []) (report (mask i j R)) = λ R. replaced R literal-false i j (j ∷ []) own in (
+    let kept : Project → List Line = λ R. other-lines i (j ∷ []) (report R) in
+    let apart : (R : Project) → kept R ≡ kept (mask i j R) = λ R. replaced R literal-false i j (j ∷ []) own in (
       others-told c r i (j ∷ [])
-          ∙ ap (map spoken) (apart P ∙ ap (λ (R : Project). other-lines i (j ∷ []) (report R)) same ∙ sym (apart Q))
+          ∙ ap (map spoken) (apart P ∙ ap kept same ∙ sym (apart Q))
           ∙ sym (others-told d s i (j ∷ [])),
       λ h.
           let p = told-imported c r i h in
@@ -158,7 +160,7 @@ module _ (c : Call) (r : Reported c) (i : ℕ) (js : List ℕ) where
 
 pub some-equations : Some-equations
 unfolding project-of
-some-equations c d r s e i js part =
+some-equations c d r s i js e part =
     let skeletons = Parts-proved.same-skeleton (project-records c) (project-records d) (tidy c) (tidy d) (passed c r .tree) (passed d s .tree) e in
     let parts = sym (masked-part c r i js) ∙ part ∙ masked-part d s i js in
     let nodes : node c r i js ≡ node d s i js = same-node (node c r i js) (node d s i js) (can-read c r i js) (can-read d s i js) parts in (

@@ -71,23 +71,27 @@ may-move i js l = (eqb (l .place) 4 && eqb (l .number) i) && (mem eqb (l .equati
 abbrev pub others : ℕ → List ℕ → List Said → List Said
 others i js = keep (λ l. not (may-move i js l))
 
--- Two calls get a report, and their records, names as texts, are equal but for the right-hand side of equation j of node i: all lines but that
--- equation's and that node's E0060 are equal, in order, and where the node is imported all lines are.
-abbrev pub One-equation : Type 0
-One-equation = (c d : Call) (r : Reported c) (s : Reported d) (i j : ℕ)
-    → masked i j (project-records c) ≡ masked i j (project-records d)
-    → (others i (j ∷ []) (lines-of c r) ≡ others i (j ∷ []) (lines-of d s))
-    × (is-imported (node-part i (project-records c)) ≡ true → lines-of c r ≡ lines-of d s)
+-- What is said of the records rs and ss of two projects and of the lines ls and ms of their reports. If the records are equal but for the
+-- right-hand side of equation j of node i, all lines but that equation's and that node's E0060 are equal, in order, and where the node is
+-- imported all lines are.
+abbrev pub One-moves : ℕ → ℕ → List Rec → List Rec → List Said → List Said → Type 0
+One-moves i j rs ss ls ms = masked i j rs ≡ masked i j ss
+    → (others i (j ∷ []) ls ≡ others i (j ∷ []) ms)
+    × (is-imported (node-part i rs) ≡ true → ls ≡ ms)
 
--- The same of each node by itself, and of several of its equations, beside demand 3: the projects differ at most in nodes' locals, equations
--- and probes, and in node i at most in the right-hand sides of the equations js.
+-- The same of one node by itself and of several of its equations, beside demand 3. If the records differ at most in nodes' locals, equations
+-- and probes, and in node i at most in the right-hand sides of the equations js, the lines about node i are equal in the same way.
+abbrev pub Some-move : ℕ → List ℕ → List Rec → List Rec → List Said → List Said → Type 0
+Some-move i js rs ss ls ms = shown all rs ≡ shown all ss → node-part i (masked-all i js rs) ≡ node-part i (masked-all i js ss)
+    → (about i (others i js ls) ≡ about i (others i js ms))
+    × (is-imported (node-part i rs) ≡ true → about i ls ≡ about i ms)
+
+-- This holds of the records, names as texts, and the lines of any two calls that get a report.
+abbrev pub One-equation : Type 0
+One-equation = (c d : Call) (r : Reported c) (s : Reported d) (i j : ℕ) → One-moves i j (project-records c) (project-records d) (lines-of c r) (lines-of d s)
+
 abbrev pub Some-equations : Type 0
-Some-equations = (c d : Call) (r : Reported c) (s : Reported d)
-    → shown all (project-records c) ≡ shown all (project-records d)
-    → (i : ℕ) (js : List ℕ)
-    → node-part i (masked-all i js (project-records c)) ≡ node-part i (masked-all i js (project-records d))
-    → (about i (others i js (lines-of c r)) ≡ about i (others i js (lines-of d s)))
-    × (is-imported (node-part i (project-records c)) ≡ true → about i (lines-of c r) ≡ about i (lines-of d s))
+Some-equations = (c d : Call) (r : Reported c) (s : Reported d) (i : ℕ) (js : List ℕ) → Some-move i js (project-records c) (project-records d) (lines-of c r) (lines-of d s)
 
 -- ---- The same of trees, which is what is meant.
 
@@ -145,12 +149,14 @@ Masks-replace = (P Q : Project) (i j : ℕ)
     → (mask i j P ≡ mask i j Q → (new : Expr) × (Q ≡ replace new i j P))
     × ((new : Expr) → Q ≡ replace new i j P → mask i j P ≡ mask i j Q)
 
--- So, of two calls that get a report: the records are equal but for the right-hand side of equation j of node i exactly if the second project
--- is the first with another right-hand side there.
+-- So records rs and ss are equal but for the right-hand side of equation j of node i exactly if their projects P and Q are such that Q is P with
+-- another right-hand side there; this holds of any two calls that get a report.
+abbrev pub Replaces : ℕ → ℕ → List Rec → List Rec → Project → Project → Type 0
+Replaces i j rs ss P Q = (masked i j rs ≡ masked i j ss → (new : Expr) × (Q ≡ replace new i j P))
+    × ((new : Expr) → Q ≡ replace new i j P → masked i j rs ≡ masked i j ss)
+
 abbrev pub Tree-meant : Type 0
-Tree-meant = (c d : Call) (r : Reported c) (s : Reported d) (i j : ℕ)
-    → (masked i j (project-records c) ≡ masked i j (project-records d) → (new : Expr) × (project d ≡ replace new i j (project c)))
-    × ((new : Expr) → project d ≡ replace new i j (project c) → masked i j (project-records c) ≡ masked i j (project-records d))
+Tree-meant = (c d : Call) (r : Reported c) (s : Reported d) (i j : ℕ) → Replaces i j (project-records c) (project-records d) (project c) (project d)
 
 -- the same lines in a report: of node i, those of an equation whose number is among js, and of its loop; and all others
 abbrev pub remark-may-move : List ℕ → Remark → Bool

@@ -96,6 +96,7 @@ Writable (list s) v = Each (Writable-one s) v
 abbrev pub Tidy : List Rec → Type 0
 Tidy = Each (λ (r : Rec). spell-as (word-class (r .kind)) (r .kind) (r .number) (r .text) ≡ r)
 
+-- the tree of a class that the records begin with, and the records behind it; or those from the first that can't stand
 abbrev pub reads : (c : Class) → List Rec → Got (Tree c)
 reads c rs = read (c ∷ []) (λ v. v .0) rs
 

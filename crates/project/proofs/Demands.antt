@@ -137,7 +137,7 @@ pub tree-meant : Tree-meant
 tree-meant c d r s i j = Moves.tree-meant (call c) (call d) (given c r) (given d s) i j
 
 pub some-equations : Some-equations
-some-equations c d r s e i js part = rw (same-lines c r, same-lines d s) (Moves.some-equations (call c) (call d) (given c r) (given d s) e i js part)
+some-equations c d r s i js e part = rw (same-lines c r, same-lines d s) (Moves.some-equations (call c) (call d) (given c r) (given d s) i js e part)
 
 -- equal records are one project, and a report's lines, with names as texts, and edges are functions of it
 pub unused-names : Unused-names
