@@ -4,7 +4,7 @@ use Prim.Native.Nat.{ℕ, zero, suc, _+_}
 use native.Mathlib.Nat.{add-zero, zero-add}
 use native.Mathlib.Omega.{arith}
 use mathlib.Core.Path.{_≡_, refl, sym, _∙_, ap, ap₂}
-use mathlib.Core.Bool.{Bool, true, false, _||_, not}
+use mathlib.Core.Bool.{Bool, true, false, not, or-true}
 use mathlib.Core.List.{List, [], _∷_, _++_, map, map-append}
 use mathlib.Core.Option.{Option, none, some}
 use lib.Dec.{eqb}
@@ -26,10 +26,6 @@ use Rattle.demands.specs.Reading.{part-of}
 use Rattle.demands.specs.OneEquation.{is-imported, with-rhs, replace-equations, replace-node, replace-nodes, replace, remark-may-move, line-may-move, other-lines, Replaced}
 use Rattle.demands.proofs.Keeps.{keep-append, keep-map, Lacks, lacks-nil, lacks-cons, lacks-map, kept-behind, kept-before}
 use Rattle.demands.proofs.Replace.{same-defined, same-skeleton, nodes-replaced}
-
-or-true : (b : Bool) → (b || true) ≡ true
-or-true true = refl
-or-true false = refl
 
 -- where every element fails the test, nothing is kept
 all-lack : {A : Type 0} {f : A → Bool} → ((x : A) → f x ≡ false) → (l : List A) → Lacks f l

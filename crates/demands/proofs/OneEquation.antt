@@ -2,7 +2,7 @@
 -- Assumes nothing.
 use Prim.Native.Nat.{ℕ}
 use mathlib.Core.Path.{_≡_, refl, sym, _∙_, ap}
-use mathlib.Core.Bool.{Bool, true, false, _&&_, not}
+use mathlib.Core.Bool.{true, _&&_, not}
 use mathlib.Core.List.{List, [], _∷_, map}
 use mathlib.Core.Option.{Option}
 use lib.Dec.{eqb}
@@ -20,6 +20,7 @@ use Rattle.demands.specs.Reading.{Each, Writable-node, Writable-package,
 use Rattle.demands.specs.Demand3.{Call, Reported, project-records, project, lines-of, about}
 use Rattle.demands.specs.OneEquation.{masked, masked-all, is-imported, may-move, others, One-equation, Some-equations, literal-false, mask, Tree-meant, remark-may-move, line-may-move, other-lines}
 use Rattle.demands.proofs.Keeps.{keep-map, keep-swap}
+use Rattle.demands.proofs.Sets.{mem-eq, mem-later}
 use Rattle.demands.proofs.Eaches.{If-some}
 use Rattle.demands.proofs.Nodes.{judged-alone}
 use Rattle.demands.proofs.NodeParts as Parts-proved
@@ -57,12 +58,11 @@ tree-meant c d r s i j =
     (λ e. masks .0 (trees c d r s i j .0 e), λ new e. trees c d r s i j .1 (masks .1 new e))
 
 pub one-equation : One-equation
-unfolding mem
 one-equation c d r s i j e =
     let P = project c in
     let Q = project d in
     let same = trees c d r s i j .0 e in
-    let own : mem eqb j (j ∷ []) ≡ true = rw (eq-eqb j j refl, mem) in
+    let own = mem-eq eqb j j [] (eq-eqb j j refl) in
     let kept : Project → List Line = λ R. other-lines i (j ∷ []) (report R) in
     let apart : (R : Project) → kept R ≡ kept (mask i j R) = λ R. replaced R literal-false i j (j ∷ []) own in (
       others-told c r i (j ∷ [])
@@ -100,14 +100,11 @@ all-skeleton i (j ∷ js) P = same-skeleton literal-false i j (mask-all i js P) 
 
 all-replaced : (i : ℕ) (js ks : List ℕ) → ((k : ℕ) → mem eqb k ks ≡ true → mem eqb k js ≡ true) → (P : Project)
     → other-lines i js (report P) ≡ other-lines i js (report (mask-all i ks P))
-unfolding mask-all mem
+unfolding mask-all
 all-replaced i js [] h P = refl
 all-replaced i js (k ∷ ks) h P =
-    all-replaced i js ks (λ m e. h m (behind m (eqb m k) e)) P ∙ replaced (mask-all i ks P) literal-false i k js (h k (rw (eq-eqb k k refl, mem)))
-  where
-    behind : (m : ℕ) (t : Bool) → mem eqb m ks ≡ true → elim t [ true ↦ true | false ↦ mem eqb m ks ] ≡ true
-    behind m true e = refl
-    behind m false e = e
+    all-replaced i js ks (λ m e. h m (mem-later eqb m k ks e)) P
+    ∙ replaced (mask-all i ks P) literal-false i k js (h k (mem-eq eqb k k ks (eq-eqb k k refl)))
 
 -- an imported node stays one, and all its lines stay
 all-still : (i : ℕ) (js : List ℕ) (P : Project) → imported (mask-all i js P) i ≡ imported P i
