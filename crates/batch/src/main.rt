@@ -1,6 +1,8 @@
 // Reads a stream of models from standard input, each with its work words and its room for lines, and prints for each what document 01's
 // program would, with an empty line behind it. tests/oracle/batch.py says what a stream holds. It stops at the first model that does not
 // fit its buffers.
+#![tactic(auto)]
+
 use cases::{little, print_part, read_part};
 
 // Room for a file of a few bytes more than any that is not refusal 1.

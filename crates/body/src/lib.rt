@@ -2,6 +2,8 @@
 // E0070, E0146, and the names that it reads in the same instant. Kinds and words are parts that start at the right-hand side, so that a
 // position is a step. A pass counts the parts still owed, as `standing::skip` does. That for E0070 calls itself where a part of a `pre` or
 // an arrow is judged otherwise than its surroundings: so it nests no deeper than the expression's 60 levels.
+#![tactic(auto)]
+
 ghost use Rattle.std.specs.Prelude.{ℕ, ◌+◌, ◌<◌, ◌≤◌, ◌≡◌, true, [], ◌∷◌, length};
 ghost use Rattle.lustre.specs.Name.{Name, if◌then◌else◌};
 ghost use Rattle.lustre.specs.Expr.{contains_temporal};

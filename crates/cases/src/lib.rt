@@ -1,6 +1,8 @@
 // What the test programs share: numbers out of bytes, reading and printing a part of a buffer, the label of a case, lines compared with
 // those that are due, and buffers that are filled with marks, none of them zero, so that what a call leaves alone is seen. No function has a
 // `requires`.
+#![tactic(auto)]
+
 ghost use Rattle.std.specs.Prelude.{◌<◌};
 
 use lustre::Line;

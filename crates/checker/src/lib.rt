@@ -2,6 +2,8 @@
 // a record of six fields. All computing is done by `staging` on plain slices, a batch of lines at a time; here each batch is stored as
 // structs by `stored`. The records are handed on by a `Reader`. Every refusal but 7 changes nothing; after a report or 7 the lines that
 // fit are stored, and all work memory is zero. `check_all` is the same by value, for callers that lend no lines.
+#![tactic(auto)]
+
 ghost use Rattle.std.specs.Prelude.{min, ◌≡◌};
 ghost use Rattle.staging.specs.Batches.{blank};
 ghost use Rattle.checker.specs.Call.{Checked, AllChecked};

@@ -1,5 +1,7 @@
 // One constant, `check_constants`, lib.rs 262 to 325: E0003 for a name declared before, else E0004, the lines of inference as in a function,
 // and E0005. E0070 and E0146 are not asked of a constant's value.
+#![tactic(auto)]
+
 ghost use Rattle.std.specs.Prelude.{ℕ, ◌+◌, ◌≤◌, ◌≡◌, true, List, [], ◌∷◌, length};
 ghost use Rattle.std.proofs.Math.Option.{some};
 ghost use Rattle.lustre.specs.Name.{Name, if◌then◌else◌, ◌among◌};

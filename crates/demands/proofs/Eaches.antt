@@ -30,6 +30,7 @@ module _ {X : Type 0} (P : X → Type 0) where
   each_all p (x ∷ xs) = (p x, each_all p xs)
 
   pub each_member : (xs : List X) (x : X) → Memᴰ x xs → Each P xs → P x
+  each_member [] x m h = elim m [ ]
   each_member (y ∷ xs) x (Memᴰ.head e) h = subst P (sym e) h.0
   each_member (y ∷ xs) x (Memᴰ.tail m) h = each_member xs x m h.1
 

@@ -1,5 +1,7 @@
 // One equation of a node: its names, its right-hand side and its type, lib.rs 378 to 472; and the edges that it adds to the graph of
 // immediate dependencies, lib.rs 1490.
+#![tactic(auto)]
+
 ghost use Rattle.std.specs.Prelude.{ℕ, ◌+◌, ◌<◌, ◌≤◌, min, ◌≡◌, ◌&&◌, ◌||◌, List, [], ◌∷◌, ◌++◌, eqb, length, get_or};
 ghost use Rattle.std.proofs.Math.Option.{some};
 ghost use Rattle.lustre.specs.Name.{Name, if◌then◌else◌, ◌among◌};

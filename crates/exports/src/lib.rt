@@ -1,6 +1,8 @@
 // The checker for C and Rust: the call on numbers and slices, under names that a build can link. A slice is a pointer and a length, a
 // reference to a number is a pointer; `include/wuroike.h` says what each argument means. Nothing is asked of a caller but that the memory is
 // there: every content has an answer.
+#![tactic(auto)]
+
 ghost use Rattle.exports.specs.Export.{Told, Answered, AnsweredLines};
 
 use checker::check_project;

@@ -1,6 +1,8 @@
 // The file that program `check` reads and the text that it prints, as bytes: document 01, 'Program `check` reads standard input'.
 // `decode` stores a file's words and answers its sizes, `kinds_in` and `text_in` give its other two parts, which stand in the file as
 // they are; `output` holds the functions for the printed lines. Any bytes are taken.
+#![tactic(auto)]
+
 pub mod output;
 
 ghost use Rattle.std.specs.Prelude.{◌+◌, ◌*◌, ◌≤◌, ◌<◌, ◌≡◌, ◌++◌, length, drop};

@@ -2,6 +2,8 @@
 // each construct types its parts in the order of the Rust, each once, and hands their types to its rule, which stands in `rules`.
 // kinds and words are the whole project's, for what is declared; rk and rw are the part of them from the first record of a right-hand
 // side on, so that places are steps.
+#![tactic(auto)]
+
 ghost use Rattle.std.specs.Prelude.{◌≡◌, false, ◌&&◌, eqb, ◌<◌, ◌≤◌, length, get_or};
 ghost use Rattle.lustre.specs.Grammar.{literal_kind, unary_kind, when_kind, iterate_kind, iterate_from_kind};
 ghost use Rattle.lustre.specs.Expr.{Literal, size};

@@ -1,6 +1,8 @@
 // The refusals of what is lent together: document 01, 'What is lent', and requests 2.1 and 2.2. The first that applies, in the order 1, 2, 3,
 // 4 or 8, 5, 6, with its place; or that the file is blank; or the number of names. Nothing lent is changed: every slice is read only. What
 // acceptance gives stands in specs/Accepted.antt.
+#![tactic(auto)]
+
 ghost use Rattle.std.specs.Prelude.{◌≡◌};
 ghost use Rattle.lustre.specs.Answer.{is_blank, record_refusal};
 ghost use Rattle.input.specs.Input.{judged, JudgedRecords};

@@ -1,6 +1,8 @@
 // Runs the check of the input on damaged inputs and prints its answers, a line a case; what they should be stands in `stdout`. Both files
 // are made by tests/inputs/make, whose answers come from a decoder of its own. It reads from standard input; the form of a case is said
 // there. It stops at the first case that does not fit its buffers, and after 4,096 cases.
+#![tactic(auto)]
+
 use cases::{label, little, read_part};
 use input::Input;
 use lustre::refusal_numbers;

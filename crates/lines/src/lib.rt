@@ -1,6 +1,8 @@
 // The line buffer that every checking function writes to: `out: &mut [u64]`, six words a line, in the order of the fields of `lustre::Line`.
 // The number of lines so far is handed in and the number after is returned; it stays at 2^64 - 1. `out` is a window on all lines: a line
 // outside it is counted and not stored, so that the same functions serve a whole report and a batch of it.
+#![tactic(auto)]
+
 ghost use Rattle.std.specs.Prelude.{◌≡◌};
 ghost use Rattle.lines.specs.Lines.{up, Put};
 

@@ -3,6 +3,8 @@
 // the eight words at 8 * a, 4,096 words in all. Setting an edge and clearing a row touch that row alone, so that a node costs what its own
 // equations cost. A cleared name is never entered again, which takes at most one look along each edge and finds the Rust's path. Which nodes
 // are searched is not decided here.
+#![tactic(auto)]
+
 ghost use Rattle.std.specs.Prelude.{◌+◌, ◌*◌, ◌≤◌, ◌<◌, length};
 ghost use Rattle.loops.specs.Rows.{Next, Connected, Joined, Emptied, Cleared};
 ghost use Rattle.loops.specs.Steps.{CanEnter, Enters, CanPlace, Places};

@@ -1,5 +1,7 @@
 // What every crate of the checker shares: a line of the report, the answer of a call, and the codes.
 // Document 01, 'What is lent' and 'The lines and their order'. specs/ holds the definition of the whole report, which contracts cite.
+#![tactic(auto)]
+
 pub mod codes;
 
 ghost use Rattle.std.specs.Prelude.{◌≡◌};

@@ -1,6 +1,8 @@
 // The lent text as names: document 01, 'What is lent', refusal 3. A name is 1 to 64 non-zero bytes closed by a zero byte, above the
 // name before it in byte order, and neither `__tuple__` nor `__unit__`; there are at most 512. `check_names` gives refusal 3's place
 // or the number of names, `name` the part of the text that is a name, `is_above` and `same_name` compare two names. Any bytes are taken.
+#![tactic(auto)]
+
 ghost use Rattle.std.specs.Prelude.{◌≡◌, ◌≤◌, length};
 ghost use Rattle.std.proofs.Math.Option.{some};
 ghost use Rattle.lustre.specs.Name.{◌is◌, ◌among◌};

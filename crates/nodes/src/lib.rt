@@ -1,5 +1,7 @@
 // `check_node`, lib.rs 331: the lines of one node and the looks of its search, in document 01's order. Its ports and locals stand in the
 // scope, and its edges in the graph, only while it is checked, and are taken out by its own lists: so a node costs what its records cost.
+#![tactic(auto)]
+
 ghost use Rattle.std.specs.Prelude.{ℕ, ◌+◌, ◌<◌, ◌≤◌, ◌≡◌, List, [], map, length, take, drop};
 ghost use Rattle.lustre.specs.Name.{Name};
 ghost use Rattle.lustre.specs.Project.{NodeKind, Equation, Imported, port_names, is_function};

@@ -1,5 +1,7 @@
 // Document 01's program `check`: reads a file from standard input and prints the report on it, or the refusal. It also writes one digit to
 // file descriptor 3, if that is open: 0 for a report without an error, 1 for one with an error, 2 for a refusal.
+#![tactic(auto)]
+
 use response::respond;
 
 // One byte more than the longest file that is not refusal 1, so that a longer one is seen to be wrong.

@@ -1,5 +1,7 @@
 // A node's ports and locals: entered into the scope when its check begins, and taken out again when it ends, so that a node costs what its
 // own lists cost; and the lines on names that repeat or are wanting: lib.rs 353 to 376, 475 to 492 and 510 to 520.
+#![tactic(auto)]
+
 ghost use Rattle.std.specs.Prelude.{ℕ, ◌+◌, ◌<◌, ◌≤◌, ◌≡◌, List, [], ◌∷◌, ◌++◌, eqb, length, get_or};
 ghost use Rattle.lustre.specs.Name.{Name, if◌then◌else◌, ◌among◌};
 ghost use Rattle.lustre.specs.Types.{Ty};

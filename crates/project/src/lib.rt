@@ -1,6 +1,8 @@
 // `check_project`, lib.rs 134: the whole report of a project, and the call that answers it or one of the eight refusals: document 01, 'What
 // is lent'. The report is written in one pass after another over the records, in the order of its lines. A window on the lines may be
 // asked for: those from number `first` on that the buffer has places for are stored, and all are counted.
+#![tactic(auto)]
+
 ghost use Rattle.std.specs.Prelude.{ℕ, ◌+◌, ◌≤◌, ◌≡◌, List, [], length, replicate};
 ghost use Rattle.lustre.specs.Project.{skeleton, all_constants, all_nodes};
 ghost use Rattle.lustre.specs.Resolve.{context};

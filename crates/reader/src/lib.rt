@@ -2,6 +2,8 @@
 // words'. It is the way to walk the records one by one: `new` stands at the first, `next` at the one after, and past the last of the
 // `count` records it stays; `records::first_bad_from` walks so. Any kinds and words are taken: where one slice is longer, its rest is no
 // record. Thin functions hand what the reader holds to `kind_at`, `word_at`, `next_at` and `shorter`, which take plain slices and numbers.
+#![tactic(auto)]
+
 ghost use Rattle.std.specs.Prelude.{◌≡◌, get_or};
 ghost use Rattle.reader.specs.Move.{shorter, after, count, moved};
 

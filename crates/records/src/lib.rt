@@ -3,6 +3,8 @@
 // one slice is longer, its rest is not read.
 // Words in range are judged one by one, by a `Reader`; `first_bad` is that on plain slices. The tables of kinds are lustre's grammar in
 // numbers: one computed test over all kinds and sorts shows it.
+#![tactic(auto)]
+
 mod tables;
 
 ghost use Rattle.std.specs.Prelude.{◌≡◌, ◌+◌, ◌<◌};

@@ -1,6 +1,8 @@
 // Runs stored models and compares with the answers by the Rust that are stored beside them, all six words of each line; then
 // prints how many agree. What the call must leave alone and what it must make zero is compared too. It reads from standard input;
 // tests/replay/make makes that file and says what it holds. It stops at the first model that does not fit its buffers.
+#![tactic(auto)]
+
 use cases::{little, read_part};
 use checker::Report;
 

@@ -1,6 +1,8 @@
 // From the bytes of a file to what is printed for it: document 01, program `check`. `answer_to` takes a file apart and makes the call,
 // with what is lent to it; `render` gives the bytes of a report by value, the answer and its lines; `respond` is the two together with the
 // 4,096 work words and 1,024 lines that the program lends. Any bytes are taken.
+#![tactic(auto)]
+
 ghost use Rattle.std.specs.Prelude.{◌≤◌, ◌≡◌, map, length, take};
 ghost use Rattle.lustre.specs.Names.{names_of};
 ghost use Rattle.format.specs.Output.{line_count, line, output_lines};

@@ -3,6 +3,8 @@
 // A rule reads the whole project's records, kinds and words, and the scope, six tables of 512 entries by name number: 0 for none, else 1
 // and the number of the record that declares the name. It writes its lines to `out` and returns the number of lines after them.
 // The modules below hold the hints, the lists of ports, the values of structs and the iterators.
+#![tactic(auto)]
+
 pub mod hints;
 pub mod iterators;
 pub mod ports;

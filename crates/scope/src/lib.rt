@@ -1,6 +1,8 @@
 // The scope that names are looked up in: six tables of 512 entries by name number, one slice of 3,072 words, and sets of names as eight
 // words of bits. An entry is 0 for none, else 1 and the number of the record that declares the name. specs/ says what the tables hold of a
 // project; here are the steps that make them.
+#![tactic(auto)]
+
 ghost use Rattle.std.specs.Prelude.{ℕ, ◌+◌, ◌<◌, ◌≤◌, ◌≡◌, [], ◌∷◌, eqb, length, get_or, set as with};
 ghost use Rattle.lustre.specs.Name.{Name, if◌then◌else◌};
 ghost use Rattle.lustre.specs.Line.{about};

@@ -3,6 +3,8 @@
 // work memory is cleared, all of it. So a report may have more lines than the work memory has places for: each batch takes one pass over the
 // project. Refused input changes nothing. A batch holds the answer and plain numbers, so that whoever stores the lines has nothing to
 // compute.
+#![tactic(auto)]
+
 ghost use Rattle.std.specs.Prelude.{◌≡◌, ◌+◌, ◌^◌, ◌<◌, ◌≤◌};
 ghost use Rattle.scope.specs.Model.{Model};
 ghost use Rattle.tables.specs.Entered.{AliasesBelow};

@@ -1,6 +1,8 @@
 // How the parts of a project stand in its records, by position: definitions in specs/ and their laws in proofs/, for the crates that walk
 // the records; and the walk that passes one expression, whatever it is. Each record pays for one part and owes those that follow it, so
 // that a walk needs no stack: it ends where nothing is owed.
+#![tactic(auto)]
+
 mod table;
 
 ghost use Rattle.std.specs.Prelude.{◌+◌, ◌<◌, ◌≡◌};

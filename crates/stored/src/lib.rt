@@ -1,6 +1,8 @@
 // Lines of the report as structs in a slice that the caller lends: document 01, 'the lent slice of report lines, each a record of six
 // fields'. `store` stores one line; `fill` stores line after line from the flat buffer of `lines`, six words each, that every checking
 // function writes to. Nothing is stored past what is asked.
+#![tactic(auto)]
+
 ghost use Rattle.std.specs.Prelude.{◌≡◌, ◌<◌, ◌+◌, ◌*◌, ◌≤◌, length, set};
 ghost use Rattle.lines.specs.Lines.{line_in};
 ghost use Rattle.stored.specs.Laid.{laid};

@@ -1,6 +1,8 @@
 // The tables of a project, made in passes over its records, with the lines that belong to declarations as a whole: lib.rs 134 to 183.
 // A package, a type, a constant and a node each begin with a record of a kind of their own, so a pass looks at every record and acts on
 // those kinds alone.
+#![tactic(auto)]
+
 ghost use Rattle.std.specs.Prelude.{ℕ, ◌+◌, ◌<◌, ◌≤◌, ◌≡◌, List, [], ◌∷◌, ◌++◌, map, length, replicate};
 ghost use Rattle.lustre.specs.Name.{Name, set_of};
 ghost use Rattle.lustre.specs.Types.{Ty};

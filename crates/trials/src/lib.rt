@@ -1,6 +1,8 @@
 // Runs a stream of cases, each with its work memory and its room for lines, and prints for each whether it agrees: what is printed for it,
 // the lines stored, the blank lines behind them, and the work memory. It reads from standard input; tests/edges/make says what a case holds.
 // The programs `edges` and `explained` are this on a file of their own.
+#![tactic(auto)]
+
 use cases::{label, little, read_part};
 use checker::Report;
 use lustre::Answer;

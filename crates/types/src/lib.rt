@@ -3,6 +3,8 @@
 // 35, which no record has, are the types of tuples of so many members and of no value (`__tuple__` and `__unit__` in the Rust).
 // The lengths stand innermost first, so that an array's element is the type with one length less.
 // Reading types from the records, resolving them and the types of literals are the modules below.
+#![tactic(auto)]
+
 pub mod aliases;
 pub mod literal;
 pub mod records;

@@ -1,0 +1,12 @@
+pub mod Models
+pub mod Cases
+pub mod Slips
+pub mod Typing
+pub mod Literals
+pub mod Steps
+pub mod Pinned
+pub mod Reading
+pub mod Refusals
+pub mod Lowest
+pub mod Blank
+pub mod Tuples
