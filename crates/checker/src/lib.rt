@@ -39,7 +39,7 @@ pub fn check_project(
 }
 
 // An answer with its lines; those behind the lines that were stored are blank.
-#[derive(Drop)]
+#[derive(Clone, Copy)]
 pub struct Report {
     pub answer: Answer,
     pub lines: [Line; 1024],

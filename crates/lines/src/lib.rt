@@ -8,7 +8,7 @@ ghost use Rattle.lines.specs.Lines.{up, Put};
 
 // What is constant in one equation: a line's place, number and equation, the number of the line that goes to place 0 of the buffer,
 // and whether the node is a function.
-#[derive(Drop)]
+#[derive(Clone, Copy)]
 pub struct Spot {
     pub place: u64,
     pub number: u64,

@@ -24,7 +24,7 @@ pub const AT_NODE: u64 = 4;
 // A line of the report. `equation`, `step` and `name`, a name's number, may be NONE. Its layout is C's, so that `exports` can lend a slice of
 // lines.
 #[repr(C)]
-#[derive(Drop)]
+#[derive(Clone, Copy)]
 pub struct Line {
     pub code: u64,
     pub place: u64,
@@ -48,7 +48,7 @@ pub enum Refusal {
 
 // What the check of a project answers: a report, with its number of lines and the number of edges followed, or one of eight refusals, with
 // its place.
-#[derive(Drop)]
+#[derive(Clone, Copy)]
 pub enum Answer {
     Report(u64, u64),
     Refused(Refusal),

@@ -8,7 +8,7 @@ ghost use Rattle.std.specs.Prelude.{◌≡◌, get_or};
 ghost use Rattle.reader.specs.Move.{shorter, after, count, moved};
 
 // The lent kinds and words, and the number of the record that the reader stands at.
-#[derive(Drop)]
+#[derive(Clone, Copy)]
 pub struct Reader<'a> {
     pub kinds: &'a [u8],
     pub words: &'a [u64],

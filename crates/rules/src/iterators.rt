@@ -26,7 +26,7 @@ use types::{Hint, Typ, array_of, bottom_of, element, outer_length};
 
 // What an iterator keeps of its arrays: whether there is one, whether their lengths are equal and their elements are of the types of the
 // inputs beside them, and the length and the element type of the first.
-#[derive(Drop)]
+#[derive(Clone, Copy)]
 pub struct Kept {
     pub any: bool,
     pub even: bool,

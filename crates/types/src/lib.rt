@@ -23,7 +23,7 @@ pub const TUPLE: u8 = 34;
 
 // A type: `levels` arrays around a basic or named type or a tuple. `name` is a name's number for kind 33, the number of members for 34,
 // and counts for no other; lengths from `levels` on do not count.
-#[derive(Drop)]
+#[derive(Clone, Copy)]
 pub struct Typ {
     pub base: u8,
     pub name: u64,
@@ -32,7 +32,7 @@ pub struct Typ {
 }
 
 // A type that an expression may take, if given.
-#[derive(Drop)]
+#[derive(Clone, Copy)]
 pub struct Hint {
     pub given: bool,
     pub typ: Typ,
