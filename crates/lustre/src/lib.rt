@@ -35,7 +35,7 @@ pub struct Line {
 }
 
 // The refusals of what is lent, document 01's 1 to 6 and request 2.2's 8, each with its place. Every call on a project has them.
-#[derive(Drop)]
+#[derive(Clone, Copy)]
 pub enum Refusal {
     Sizes,
     ShortWork(u64),
