@@ -53,7 +53,7 @@ pub fn is_above(a: &[u8], b: &[u8]) -> bool
 
 // Whether two names are the same.
 pub fn same_name(a: &[u8], b: &[u8]) -> bool
-    ensures { result ≡ a.now is (λ x. x.now) b.entry }
+    ensures { result ≡ a.now is b.now }
 {
     if a.len() != b.len() {
         return false;

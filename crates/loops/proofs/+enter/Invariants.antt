@@ -1,0 +1,16 @@
+-- The proof of the cycle of calls {enter}. The measure is the number of free names. The loop's invariant is `Looking` of proofs/Steps.antt,
+-- and each way through its body a law of that file. Assumes nothing.
+use Prim.Native.Nat.{ℕ, ◌<◌, ◌-◌}
+use native.Mathlib.Omega.{arith}
+use Rattle.loops.specs.Steps.{free}
+use Rattle.loops.proofs.Steps.{Looking, room, start_wide, looking_start, looking_skip, looking_clear, long_here, bound_here, fits_here, can_deeper, entered_clear, entered_loop, entered_deeper}
+use Rattle.loops.proofs.+enter.Given as goal
+
+abbrev pub invariant-loop-s : goal.invariant-loop-s
+invariant-loop-s l = Looking l.graph l.depth l.node l.initial.colour l.initial.path l.initial.looks l.colour l.path l.looks l.s
+
+abbrev pub decreases-loop-s : goal.decreases-loop-s
+decreases-loop-s l = 512 - l.s
+
+abbrev pub decreases-enter : goal.decreases-enter
+decreases-enter l = free l.colour.now

@@ -1,0 +1,13 @@
+-- `types::aliases::follow` meets its contract. The invariant is `Following`: what the name gives is what the base gives with the levels left,
+-- inside the lengths counted. The measure is the levels left. Assumes nothing.
+use Prim.Native.Nat.{◌-◌}
+use native.Mathlib.Omega.{arith}
+use mathlib.Core.Path.{sym, ◌∙◌}
+use Rattle.types.proofs.Follows.{Following, inner_few, follow_starts, basic_ends, name_ends, runs_out, enters}
+use Rattle.types.proofs.aliases.follow.Given as goal
+
+abbrev pub invariant-loop-base : goal.invariant-loop-base
+invariant-loop-base l = Following l.kinds l.words l.scope l.n l.base l.name l.levels l.depth
+
+abbrev pub decreases-loop-base : goal.decreases-loop-base
+decreases-loop-base l = 65 - l.depth

@@ -1,0 +1,13 @@
+-- `types::aliases::try_resolve` meets its contract. The invariant is `Trying`: what t gives is what u's bottom gives with the levels left,
+-- inside u's lengths. The measure is the levels left. Assumes nothing.
+use Prim.Native.Nat.{◌-◌}
+use native.Mathlib.Omega.{arith}
+use mathlib.Core.Path.{sym, ◌∙◌}
+use Rattle.types.proofs.Tries.{Trying, too_long, try_starts, basic_ends, name_ends, runs_out, enters}
+use Rattle.types.proofs.aliases.try_resolve.Given as goal
+
+abbrev pub invariant-loop-u : goal.invariant-loop-u
+invariant-loop-u l = Trying l.kinds l.words l.scope l.t l.u l.depth
+
+abbrev pub decreases-loop-u : goal.decreases-loop-u
+decreases-loop-u l = 65 - l.depth

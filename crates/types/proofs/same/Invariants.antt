@@ -1,0 +1,15 @@
+-- `types::same` meets its contract. The invariant: the lengths passed are equal. Assumes nothing.
+use Prim.Native.Nat.{ℕ, ◌≤◌, ◌<◌, ◌-◌}
+use native.Mathlib.Omega.{arith}
+use mathlib.Core.Path.{◌≡◌, sym, ◌∙◌}
+use lib.ListN.{get_or}
+use borrow.Author.Rules.{rules}
+use borrow.Author.Count.{below_none, below_more}
+use Rattle.types.proofs.Values.{types_levels, types_length, types_same}
+use Rattle.types.proofs.same.Given as goal
+
+abbrev pub invariant-loop-i : goal.invariant-loop-i
+invariant-loop-i l = (l.i ≤ l.n) × ((k : ℕ) → k < l.i → get_or l.a.lengths k 0 ≡ get_or l.b.lengths k 0)
+
+abbrev pub decreases-loop-i : goal.decreases-loop-i
+decreases-loop-i l = l.n - l.i
