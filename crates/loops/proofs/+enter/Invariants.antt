@@ -1,9 +1,8 @@
 -- The proof of the cycle of calls {enter}. The measure is the number of free names. The loop's invariant is `Looking` of proofs/Steps.antt,
 -- and each way through its body a law of that file. Assumes nothing.
-use Prim.Native.Nat.{ℕ, ◌<◌, ◌-◌}
-use native.Mathlib.Omega.{arith}
+use Prim.Native.Nat.{◌-◌}
 use Rattle.loops.specs.Steps.{free}
-use Rattle.loops.proofs.Steps.{Looking, room, start_wide, looking_start, looking_skip, looking_clear, long_here, bound_here, fits_here, can_deeper, entered_clear, entered_loop, entered_deeper}
+use Rattle.loops.proofs.Steps.{Looking}
 use Rattle.loops.proofs.+enter.Given as goal
 
 abbrev pub invariant-loop-s : goal.invariant-loop-s
