@@ -18,8 +18,7 @@ use Rattle.types.specs.Place.{arraysIn, ty_at, IsTypeAt, Last}
 use Rattle.types.specs.Scope.{slot, Table, arrays, inside, shape, shaped, Follows, kind_of, KindOf, is_some}
 use Rattle.types.specs.declared.Typ.{Typ}
 use Rattle.types.specs.declared.aliases.Followed.{Followed}
-use Rattle.types.proofs.Truths.{never}
-use Rattle.types.proofs.Values.{bottom_basic, bottom_name, bottom_cases, view_flat, view_array}
+use Rattle.types.proofs.Values.{bottom_basic, bottom_name, bottom_cases, view_flat}
 use Rattle.types.proofs.Places.{type_array, type_bottom, arrays_array, arrays_bottom, type_next}
 use Rattle.types.proofs.Seen.{by_depth, try_depth, resolve_depth}
 use Rattle.types.proofs.Tries.{wrapped, type_around, no_levels, basic_stays, name_stays, name_leads, basic_resolved}

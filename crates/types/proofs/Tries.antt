@@ -3,13 +3,13 @@
 use Prim.Native.Nat.{ℕ, zero, suc, ◌+◌, ◌-◌, ◌≤◌, ◌<◌}
 use mathlib.Core.Path.{◌≡◌, refl, ap, sym, ◌∙◌}
 use mathlib.Core.Bool.{Bool, true, false}
-use mathlib.Core.List.{List, []}
+use mathlib.Core.List.{List}
 use mathlib.Core.Option.{Option, none, some}
 use native.Mathlib.Omega.{arith}
 use lib.ListN.{get_or}
 use borrow.Author.Tests.{eq-eqb, ne_eqb}
-use Rattle.lustre.specs.Types.{Ty, Named}
-use Rattle.lustre.specs.Resolve.{Aliases, array_of, follow_alias, try_resolve, or_itself, resolve}
+use Rattle.lustre.specs.Types.{Ty}
+use Rattle.lustre.specs.Resolve.{Aliases, array_of, follow_alias, or_itself, resolve}
 use Rattle.types.specs.Value.{Naming, bottom, up, asTy, maybe, Known, Around}
 use Rattle.types.specs.Place.{ty_at, Read}
 use Rattle.types.specs.Scope.{slot, target, Table, Tries, Resolves}

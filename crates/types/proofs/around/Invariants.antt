@@ -1,13 +1,9 @@
 -- `types::around` meets its contract. The invariant: the first i of t's lengths are around those of u. Assumes nothing.
-use Prim.Native.Nat.{ℕ, ◌+◌, ◌-◌, ◌≤◌}
-use native.Mathlib.Omega.{arith}
-use native.Mathlib.Nat.{add-zero}
-use mathlib.Core.Path.{◌≡◌, refl, ap}
-use borrow.Author.Rules.{rules}
-use lib.ListN.{length, length-set}
+use Prim.Native.Nat.{◌+◌, ◌-◌, ◌≤◌}
+use mathlib.Core.Path.{◌≡◌}
+use lib.ListN.{length}
 use Rattle.lustre.specs.Types.{Ty}
 use Rattle.types.specs.Value.{up}
-use Rattle.types.proofs.Values.{up_around}
 use Rattle.types.proofs.around.Given as goal
 
 abbrev pub invariant-loop-i : goal.invariant-loop-i

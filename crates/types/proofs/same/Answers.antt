@@ -1,8 +1,6 @@
 -- `types::same` meets its contract. The invariant: the lengths passed are equal. Assumes nothing.
-use Prim.Native.Nat.{ℕ, ◌≤◌, ◌<◌, ◌-◌}
 use native.Mathlib.Omega.{arith}
 use mathlib.Core.Path.{◌≡◌, sym, ◌∙◌}
-use lib.ListN.{get_or}
 use borrow.Author.Rules.{rules}
 use borrow.Author.Count.{below_none, below_more}
 use Rattle.types.proofs.Values.{types_levels, types_length, types_same}
@@ -17,7 +15,7 @@ loop-i-init c = (search rules, below_none _)
 pub returns-then-a-i : goal.returns-then-a-i
 returns-then-a-i c = λ ρ inj.
     let a = c.args in
-    sym (types_length ρ a.t1 a.t2 (omega arith) c.loop-i.i (omega arith) c.if-a-i.true)
+    sym (types_length ρ a.a a.b (omega arith) c.loop-i.i (omega arith) c.if-a-i.true)
 
 pub loop-i-preserved : goal.loop-i-preserved
 loop-i-preserved c = (omega arith, below_more _ _ c.loop-i.invariant.1 (omega (arith, c.if-a-i.false)))
@@ -26,5 +24,5 @@ pub returns : goal.returns
 returns c = λ ρ inj.
     let a = c.args in
     let l = c.loop-i in
-    let e : l.i ≡ a.t1.levels = omega arith in
-    c.same_bottom.ensures ρ inj ∙ sym (types_same ρ a.t1 a.t2 (omega arith) (λ k h. l.invariant.1 k (rw e h)))
+    let e : l.i ≡ a.a.levels = omega arith in
+    c.same_bottom.ensures ρ inj ∙ sym (types_same ρ a.a a.b (omega arith) (λ k h. l.invariant.1 k (rw e h)))

@@ -1,11 +1,7 @@
 -- `types::same` meets its contract. The invariant: the lengths passed are equal. Assumes nothing.
 use Prim.Native.Nat.{ℕ, ◌≤◌, ◌<◌, ◌-◌}
-use native.Mathlib.Omega.{arith}
-use mathlib.Core.Path.{◌≡◌, sym, ◌∙◌}
+use mathlib.Core.Path.{◌≡◌}
 use lib.ListN.{get_or}
-use borrow.Author.Rules.{rules}
-use borrow.Author.Count.{below_none, below_more}
-use Rattle.types.proofs.Values.{types_levels, types_length, types_same}
 use Rattle.types.proofs.same.Given as goal
 
 abbrev pub invariant-loop-i : goal.invariant-loop-i

@@ -1,5 +1,4 @@
 -- `types::aliases::basic_kind` meets its contract. Assumes nothing.
-use borrow.Author.Rules.{rules}
 use borrow.Author.Tests.{not-true, not-false}
 use Rattle.types.proofs.Follows.{array_kind, plain_kind, lost_kind, deep_kind, named_kind, found_kind}
 use Rattle.types.proofs.aliases.basic_kind.Goals as goal

@@ -1,6 +1,5 @@
 -- `types::aliases::compatible` meets its contract: types that are one type resolve to one type. Assumes nothing.
-use mathlib.Core.Path.{sym, ◌∙◌}
-use borrow.Author.Rules.{rules}
+use mathlib.Core.Path.{sym}
 use Rattle.lustre.specs.Resolve.{resolve, compatible}
 use Rattle.types.specs.Value.{asTy}
 use Rattle.types.proofs.Values.{type_self}

@@ -1,10 +1,10 @@
 -- `types::aliases::follow` meets its contract. The invariant is `Following`: what the name gives is what the base gives with the levels left,
 -- inside the lengths counted. The measure is the levels left. Assumes nothing.
-use Prim.Native.Nat.{◌-◌}
 use native.Mathlib.Omega.{arith}
 use mathlib.Core.Path.{sym, ◌∙◌}
-use Rattle.types.proofs.Follows.{Following, inner_few, follow_starts, basic_ends, name_ends, runs_out, enters}
+use Rattle.types.proofs.Follows.{inner_few, follow_starts, basic_ends, name_ends, runs_out, enters}
 use Rattle.types.proofs.aliases.follow.Goals as goal
+use Rattle.types.proofs.aliases.follow.Goals.{Else-a-eq0}
 
 pub loop-base-init : goal.loop-base-init
 loop-base-init c = follow_starts _
@@ -22,7 +22,7 @@ pub overflow_add-depth : goal.overflow_add-depth
 overflow_add-depth c = omega (arith, c.loop-base.invariant.low)
 
 pub overflow_add-depth-in-loop-base : goal.overflow_add-depth-in-loop-base
-overflow_add-depth-in-loop-base c = omega (arith, c.loop-base.invariant.low, inner_few (last_of-last-requires (goal.at.overflow_add-depth-in-loop-base c).Else-a-eq0 c.last_of-last.lifetimes) c.last_of-last.ensures)
+overflow_add-depth-in-loop-base c = omega (arith, c.loop-base.invariant.low, inner_few (last_of-last-requires (goal.at.overflow_add-depth-in-loop-base c).Else-a-eq0) c.last_of-last.ensures)
 
 pub returns-then-depth-gt-DEEPEST : goal.returns-then-depth-gt-DEEPEST
 returns-then-depth-gt-DEEPEST c = record { is = runs_out _ c.loop-base.invariant c.loop-base-test.true c.alias_at-a.ensures c.if-a-eq0.false (rw c.alias_at-a.ensures (c.requires.stand c.loop-base.name (λ z. c.if-a-eq0.false (c.alias_at-a.ensures ∙ z)))) c.last_of-last.ensures c.if-depth-gt-DEEPEST.true _ _ _ }

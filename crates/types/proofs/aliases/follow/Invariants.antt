@@ -1,9 +1,7 @@
 -- `types::aliases::follow` meets its contract. The invariant is `Following`: what the name gives is what the base gives with the levels left,
 -- inside the lengths counted. The measure is the levels left. Assumes nothing.
 use Prim.Native.Nat.{◌-◌}
-use native.Mathlib.Omega.{arith}
-use mathlib.Core.Path.{sym, ◌∙◌}
-use Rattle.types.proofs.Follows.{Following, inner_few, follow_starts, basic_ends, name_ends, runs_out, enters}
+use Rattle.types.proofs.Follows.{Following}
 use Rattle.types.proofs.aliases.follow.Given as goal
 
 abbrev pub invariant-loop-base : goal.invariant-loop-base

@@ -1,7 +1,6 @@
 -- `types::aliases::resolve` meets its contract: a basic type and a name without alias stay. Assumes nothing.
 use native.Mathlib.Omega.{arith}
 use mathlib.Core.Path.{sym, ◌∙◌}
-use borrow.Author.Rules.{rules}
 use Rattle.types.proofs.Tries.{basic_resolved, name_resolved, resolved, unresolved}
 use Rattle.types.proofs.aliases.resolve.Goals as goal
 

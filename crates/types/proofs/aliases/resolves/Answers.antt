@@ -1,5 +1,4 @@
 -- `types::aliases::resolves` meets its contract. Assumes nothing.
-use borrow.Author.Rules.{rules}
 use Rattle.types.proofs.Follows.{name_resolves}
 use Rattle.types.proofs.aliases.resolves.Goals as goal
 

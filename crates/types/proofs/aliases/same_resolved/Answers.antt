@@ -1,6 +1,5 @@
 -- `types::aliases::same_resolved` meets its contract: types that are one type resolve to one type. Assumes nothing.
 use mathlib.Core.Path.{ap₂, sym, ◌∙◌}
-use borrow.Author.Rules.{rules}
 use Rattle.lustre.specs.Types.{same_type}
 use Rattle.lustre.specs.Resolve.{resolve, compatible}
 use Rattle.types.specs.Value.{asTy}

@@ -1,9 +1,8 @@
 -- `types::aliases::try_resolve` meets its contract. The invariant is `Trying`: what t gives is what u's bottom gives with the levels left,
 -- inside u's lengths. The measure is the levels left. Assumes nothing.
-use Prim.Native.Nat.{◌-◌}
 use native.Mathlib.Omega.{arith}
 use mathlib.Core.Path.{sym, ◌∙◌}
-use Rattle.types.proofs.Tries.{Trying, too_long, try_starts, basic_ends, name_ends, runs_out, enters}
+use Rattle.types.proofs.Tries.{too_long, try_starts, basic_ends, name_ends, runs_out, enters}
 use Rattle.types.proofs.aliases.try_resolve.Goals as goal
 
 pub returns-then-depth-gt-DEEPEST : goal.returns-then-depth-gt-DEEPEST

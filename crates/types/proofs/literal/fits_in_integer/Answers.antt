@@ -2,7 +2,6 @@
 use mathlib.Core.Path.{◌∙◌}
 use mir.Syntax.{w64}
 use mir.ValLaws.{to_z-of_z}
-use borrow.Author.Rules.{rules}
 use borrow.Author.Tests.{not-true, not-false}
 use Rattle.types.proofs.Literals.{held, least, not_least}
 use Rattle.types.proofs.literal.fits_in_integer.Goals as goal

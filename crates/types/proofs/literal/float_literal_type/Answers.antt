@@ -1,6 +1,5 @@
 -- `types::literal::float_literal_type` meets its contract: the resolved hint where that is a type of floats, else Float64. Assumes nothing.
 use mathlib.Core.Path.{refl, sym, ◌∙◌}
-use borrow.Author.Rules.{rules}
 use borrow.Author.Tests.{eqb-false}
 use Rattle.lustre.specs.Types.{within}
 use Rattle.types.proofs.Literals.{kind_is, picks_float, takes_hint, leaves_hint, no_hint}

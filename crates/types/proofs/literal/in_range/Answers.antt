@@ -1,6 +1,5 @@
 -- `types::literal::in_range` meets its contract: one law for the signed ranges and one for the others, over the width. Assumes nothing.
 use mathlib.Core.Path.{sym}
-use borrow.Author.Rules.{rules}
 use Rattle.types.proofs.Literals.{in_none, in_signed, in_unsigned, below_unsigned}
 use Rattle.types.proofs.literal.in_range.Goals as goal
 

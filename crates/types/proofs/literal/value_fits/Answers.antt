@@ -2,7 +2,6 @@
 use mathlib.Core.Path.{◌∙◌}
 use mir.Syntax.{w64}
 use mir.ValLaws.{to_z-of_z}
-use borrow.Author.Rules.{rules}
 use Rattle.types.proofs.Literals.{parts}
 use Rattle.types.proofs.literal.value_fits.Goals as goal
 

@@ -9,22 +9,22 @@ use Rattle.types.proofs.literal.width.Goals as goal
 
 pub returns-in-21 : goal.returns-in-21
 unfolding rangeAs range_of
-returns-in-21 c = (⊎_elim (λ e. rw e) (λ e. rw e) c.in-21.keys1, omega arith)
+returns-in-21 c = (⊎_elim (λ e. rw e) (λ e. rw e) c.in-21.is, omega arith)
 
 pub returns-in-22 : goal.returns-in-22
 unfolding rangeAs range_of
-returns-in-22 c = (⊎_elim (λ e. rw e) (λ e. rw e) c.in-22.keys2, omega arith)
+returns-in-22 c = (⊎_elim (λ e. rw e) (λ e. rw e) c.in-22.is, omega arith)
 
 pub returns-in-23 : goal.returns-in-23
 unfolding rangeAs range_of
-returns-in-23 c = (⊎_elim (λ e. rw e) (λ e. rw e) c.in-23.keys3, omega arith)
+returns-in-23 c = (⊎_elim (λ e. rw e) (λ e. rw e) c.in-23.is, omega arith)
 
 pub returns-in-24 : goal.returns-in-24
 unfolding rangeAs range_of
-returns-in-24 c = (⊎_elim (λ e. rw e) (λ e. rw e) c.in-24.keys4, omega arith)
+returns-in-24 c = (⊎_elim (λ e. rw e) (λ e. rw e) c.in-24.is, omega arith)
 
 pub returns-in_default : goal.returns-in_default
 unfolding rangeAs
 returns-in_default c =
-    let r = c.in_default.rest in
+    let r = c.in_default.in_default-own.rest in
     (sym (no_range c.args.k (λ e. r.0.0.0.1 (inl e)) (λ e. r.0.0.1 (inl e)) (λ e. r.0.1 (inl e)) (λ e. r.1 (inl e)) (λ e. r.0.0.0.1 (inr e)) (λ e. r.0.0.1 (inr e)) (λ e. r.0.1 (inr e)) (λ e. r.1 (inr e))), omega arith)
