@@ -1,10 +1,10 @@
 -- The walk of a reader over the records: a record in range is passed, and where the walk stops stands the first out of range, or the end.
 -- Assumes nothing.
-use mathlib.Core.Path.{◌≡◌, refl, ap, sym, ◌∙◌}
+use mathlib.Core.Path.{◌≡◌, refl, ap}
 use mathlib.Core.Bool.{Bool, true, false}
 use mathlib.Core.List.{List}
 use mathlib.Core.Logic.{◌⊎◌, inl, inr}
-use Prim.Native.Nat.{ℕ, ◌+◌, ◌-◌, ◌≤◌, ◌<◌}
+use Prim.Native.Nat.{ℕ, ◌+◌, ◌≤◌, ◌<◌}
 use native.Mathlib.Omega.{arith}
 use lib.Dec.{ltb}
 use lib.ListN.{length}
@@ -24,7 +24,7 @@ one a b n true h = inl h
 one a b n false h = inr h
 
 -- there are no more records than kinds, and no more than words
-pub kinds_enough : (r : Reader) → count r ≤ length r.kinds.now
+kinds_enough : (r : Reader) → count r ≤ length r.kinds.now
 kinds_enough r = (both (length r.kinds.now) (length r.words.now) _ refl).0
 
 words_enough : (r : Reader) → count r ≤ length r.words.now
@@ -45,7 +45,7 @@ module _ (names : ℕ) (r : Reader) where
     in_words = omega (arith, h, words_enough r)
 
     -- the next place
-    pub next_place : (moved r).at ≡ r.at + 1
+    next_place : (moved r).at ≡ r.at + 1
     next_place = ap (λ (t : Bool). pick t (r.at + 1) r.at) (lt-ltb r.at (count r) h)
 
     -- a record in range is passed
@@ -64,32 +64,3 @@ module _ (names : ℕ) (r : Reader) where
         | inr k ↦ words.bad_words names r.at ks ws k
       ]
       )
-
--- Where the walk of a reader stands: at a reader of as many records, from which on the first out of range is the one looked for.
-pub record Stand (names : ℕ) (d : Reader) : Type 0 where
-  pub s : Reader
-  pub same : count s ≡ count d
-  pub leads : bad_from names d ≡ bad_from names s
-
-module _ {names : ℕ} {d : Reader} where
-  abbrev pub start : Stand names d
-  start = record { s = d; same = refl; leads = refl }
-
-  module _ (t : Stand names d) where
-    pub here : t.s.at < count d → t.s.at < count t.s
-    here h = rw t.same h
-
-    -- one record on
-    abbrev pub on : (s' : Reader) → s' ≡ moved t.s → t.s.at < count d → judged names t.s ≡ true → Stand names d
-    on s' e h j = record { s = s'; same = ap count e ∙ t.same; leads = t.leads ∙ passed names t.s (here h) j ∙ ap (bad_from names) (sym e) }
-
-    -- less is left
-    pub fewer : (s' : Reader) → s' ≡ moved t.s → t.s.at < count d → count d - s'.at < count d - t.s.at
-    fewer s' e h = omega (arith, h, ap (λ (r : Reader). r.at) e ∙ next_place names t.s (here h))
-
-    -- where the walk stops
-    pub stops_here : t.s.at < count d → judged names t.s ≡ false → bad_from names d ≡ record_at t.s.at (count d)
-    stops_here h j = t.leads ∙ found names t.s (here h) j ∙ ap (record_at t.s.at) t.same
-
-    pub stops_at_end : count d ≤ t.s.at → bad_from names d ≡ record_at t.s.at (count d)
-    stops_at_end h = t.leads ∙ ended names t.s (rw t.same h) ∙ ap (record_at t.s.at) t.same
