@@ -10,7 +10,7 @@ use mathlib.Core.Option.{Option, none, some}
 use borrow.Author.Tests.{leb-true}
 use lib.Dec.{eqb, ltb, leb}
 use lib.ListN.{length, get_or, take, length-append, length-take}
-use Rattle.lustre.specs.Name.{Name, if◌then◌else◌, ◌among◌}
+use Rattle.lustre.specs.Name.{Name, ◌among◌}
 use Rattle.lustre.specs.Names.{Piece, above, barred, is_name, split, bad_piece, bad_name, names_of, name_at}
 use Rattle.lustre.specs.Answer.{refusal_of, first_of, second_of, no_value}
 use Rattle.lustre.specs.declared.Line.{Line}
