@@ -92,7 +92,7 @@ module _ (S : Source) (e : Expr) (at : ℕ) (under : Bool) (num : Name → ℕ) 
 -- ---- the turns of the loop
 
 -- what a call of `check_pre` ensures
-abbrev Checks : (ks ws : List ℕ) (at : ℕ) (under : Bool) (q : Spot) (o : List ℕ) (n : ℕ) (r : Passed) (o' : List ℕ) → Type 0
+abbrev pub Checks : (ks ws : List ℕ) (at : ℕ) (under : Bool) (q : Spot) (o : List ℕ) (n : ℕ) (r : Passed) (o' : List ℕ) → Type 0
 Checks ks ws at under q o n r o' = (num : Name → ℕ) (g : There ks ws at) → Initialized num q g.e at under o n r o'
 
 -- some numbering of names, where which it is does not matter

@@ -1,0 +1,12 @@
+-- `body::immediate_reads` meets its contract. The loop's invariant is `Collecting` of proofs/Collects.antt, and each way through its body
+-- a law of that file. Assumes nothing.
+use Prim.Native.Nat.{◌-◌}
+use lib.ListN.{length}
+use Rattle.body.proofs.Collects.{Collecting}
+use Rattle.body.proofs.immediate_reads.Given as goal
+
+abbrev pub invariant-loop-left : goal.invariant-loop-left
+invariant-loop-left l = Collecting l.kinds l.words l.at l.initial.row l.next l.left l.row
+
+abbrev pub decreases-loop-left : goal.decreases-loop-left
+decreases-loop-left l = length l.kinds - l.next
