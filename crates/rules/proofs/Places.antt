@@ -54,14 +54,14 @@ module _ (S : Source) where
       let n₁ = ne_eqb b 32 (λ e. omega (arith, r.1)) in
       let n₂ = ne_eqb b 33 (λ e. omega (arith, r.1)) in
       let n₃ = ne_eqb b 34 (λ e. omega (arith, r.1)) in
-      rw (kinds_from at s.0.in_kinds, words_from at s.0.in_words_lem, s.0.kind)
+      rw (kinds_from at s.0.in_kinds, words_from at s.0.in_words, s.0.kind)
       (record { whole = rw (n₁, n₂, le-leb 20 b r.0, le-leb b 31 r.1); levels = rw n₁; is = rw (n₁, n₂, n₃) })
   stands (Array n t) at s =
       let r = stands t (at + 1) s.3 in
-      rw (kinds_from at s.0.in_kinds, words_from at s.0.in_words_lem, s.0.kind, s.1)
+      rw (kinds_from at s.0.in_kinds, words_from at s.0.in_words, s.0.kind, s.1)
       (record { whole = rw (lt-ltb n 4_294_967_296 s.2) r.whole; levels = omega (arith, r.levels); is = ap (Array n) r.is })
   stands (Named x) at s =
-      rw (kinds_from at s.0.in_kinds, words_from at s.0.in_words_lem, s.0.kind)
+      rw (kinds_from at s.0.in_kinds, words_from at s.0.in_words, s.0.kind)
       (record { whole = lt-ltb (word S at) 512 s.1.small; levels = refl; is = ap Named s.1.text })
   stands (Tuple n) at s = absurd s
 
