@@ -6,7 +6,7 @@ use mathlib.Core.Bool.{Bool, true, false, not}
 use mathlib.Core.List.{List, [], ◌∷◌, ◌++◌, map, map-append}
 use mathlib.Core.Logic.{⊎_elim}
 use mathlib.Core.Option.{none}
-use Rattle.lustre.specs.Name.{Name, if◌then◌else◌, ◌is◌, ◌among◌}
+use Rattle.lustre.specs.Name.{Name, if◌then◌else◌, ◌is◌}
 use Rattle.lustre.specs.Line.{Place, about}
 use Rattle.lustre.specs.Answer.{place_number, or_none}
 use Rattle.lustre.specs.Report.{line}
