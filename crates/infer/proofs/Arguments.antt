@@ -9,7 +9,7 @@ use mathlib.Core.Option.{Option, none, some}
 use lib.ListN.{length, get_or}
 use borrow.Author.Tests.{eq-eqb}
 use Rattle.lustre.specs.Name.{Name}
-use Rattle.lustre.specs.Types.{Ty, levels}
+use Rattle.lustre.specs.Types.{Ty}
 use Rattle.lustre.specs.Expr.{Exprs, call, size, sizes}
 use Rattle.lustre.specs.Line.{named, try}
 use Rattle.lustre.specs.Grammar.{count}

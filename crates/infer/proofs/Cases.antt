@@ -24,7 +24,7 @@ use Rattle.lustre.specs.Infer.{Typing, infer, res, or_else, sub_hint, right_hint
 use Rattle.input.specs.Depths.{depth, ShallowCasts}
 use Rattle.standing.specs.Standing.{Source, source, ExprAt}
 use Rattle.standing.specs.Owed.{There}
-use Rattle.standing.proofs.Inversions.{OnePart, TwoParts, ThreeParts, Items, Cast, WithName, op_at, op_kind_at, expr_record, expr_kind, const_here, var_here, unary_here, binary_here, ite_here, pre_here, arrow_here, field_here, index_here, tuple_here, cast_here, when_here, merge_here}
+use Rattle.standing.proofs.Inversions.{OnePart, TwoParts, ThreeParts, Cast, WithName, op_at, op_kind_at, expr_record, expr_kind, const_here, var_here, unary_here, binary_here, ite_here, pre_here, arrow_here, field_here, index_here, tuple_here, cast_here, when_here, merge_here}
 use Rattle.standing.proofs.Sizes.{size_pos}
 use Rattle.lines.specs.Lines.{Noted}
 use Rattle.lines.specs.declared.Spot.{Spot}

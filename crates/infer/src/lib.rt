@@ -134,7 +134,7 @@ fn tuple(
 }
 
 // `not` and minus, lib.rs 770: a minus directly on an integer literal is a signed literal.
-#[cycle(arg_args_array_arrays_binary_both_build_call_cast_field_gather_index_infer_ite_item_items_iter_iter_from_merge_unary_value_values_when)]
+#[cycle(inference)]
 fn unary(
     kinds: &[u8],
     words: &[u64],
@@ -170,7 +170,7 @@ fn unary(
 }
 
 // A binary operator, lib.rs 805: h is the left operand's hint and then the right one's, lib.rs 818.
-#[cycle(arg_args_array_arrays_binary_both_build_call_cast_field_gather_index_infer_ite_item_items_iter_iter_from_merge_unary_value_values_when)]
+#[cycle(inference)]
 fn binary(
     kinds: &[u8],
     words: &[u64],
@@ -208,7 +208,7 @@ fn binary(
 }
 
 // Two parts that must agree, the second hinted by the first, lib.rs 917, 934 and 1207: the branches of `if` and `merge`, the sides of `->`.
-#[cycle(arg_args_array_arrays_binary_both_build_call_cast_field_gather_index_infer_ite_item_items_iter_iter_from_merge_unary_value_values_when)]
+#[cycle(inference)]
 fn both(
     kinds: &[u8],
     words: &[u64],
@@ -246,7 +246,7 @@ fn both(
 }
 
 // `if`, lib.rs 901: E0090, E0091.
-#[cycle(arg_args_array_arrays_binary_both_build_call_cast_field_gather_index_infer_ite_item_items_iter_iter_from_merge_unary_value_values_when)]
+#[cycle(inference)]
 fn ite(
     kinds: &[u8],
     words: &[u64],
@@ -279,7 +279,7 @@ fn ite(
 }
 
 // `when`, lib.rs 1199.
-#[cycle(arg_args_array_arrays_binary_both_build_call_cast_field_gather_index_infer_ite_item_items_iter_iter_from_merge_unary_value_values_when)]
+#[cycle(inference)]
 fn when(
     kinds: &[u8],
     words: &[u64],
@@ -301,7 +301,7 @@ fn when(
 }
 
 // `merge`, lib.rs 1204: E0131.
-#[cycle(arg_args_array_arrays_binary_both_build_call_cast_field_gather_index_infer_ite_item_items_iter_iter_from_merge_unary_value_values_when)]
+#[cycle(inference)]
 fn merge(
     kinds: &[u8],
     words: &[u64],
@@ -336,7 +336,7 @@ fn merge(
 }
 
 // A field, lib.rs 1007.
-#[cycle(arg_args_array_arrays_binary_both_build_call_cast_field_gather_index_infer_ite_item_items_iter_iter_from_merge_unary_value_values_when)]
+#[cycle(inference)]
 fn field(
     kinds: &[u8],
     words: &[u64],
@@ -364,7 +364,7 @@ fn field(
 }
 
 // An index, lib.rs 1052.
-#[cycle(arg_args_array_arrays_binary_both_build_call_cast_field_gather_index_infer_ite_item_items_iter_iter_from_merge_unary_value_values_when)]
+#[cycle(inference)]
 fn index(
     kinds: &[u8],
     words: &[u64],
@@ -398,7 +398,7 @@ fn index(
 }
 
 // A cast, lib.rs 730.
-#[cycle(arg_args_array_arrays_binary_both_build_call_cast_field_gather_index_infer_ite_item_items_iter_iter_from_merge_unary_value_values_when)]
+#[cycle(inference)]
 fn cast(
     kinds: &[u8],
     words: &[u64],
@@ -427,7 +427,7 @@ fn cast(
 }
 
 // An argument at a place beside the port at another, lib.rs 983: E0103.
-#[cycle(arg_args_array_arrays_binary_both_build_call_cast_field_gather_index_infer_ite_item_items_iter_iter_from_merge_unary_value_values_when)]
+#[cycle(inference)]
 fn arg(
     kinds: &[u8],
     words: &[u64],
@@ -470,7 +470,7 @@ fn arg(
 }
 
 // The arguments of a call, lib.rs 983.
-#[cycle(arg_args_array_arrays_binary_both_build_call_cast_field_gather_index_infer_ite_item_items_iter_iter_from_merge_unary_value_values_when)]
+#[cycle(inference)]
 fn args(
     kinds: &[u8],
     words: &[u64],
@@ -508,7 +508,7 @@ fn args(
 }
 
 // A call, lib.rs 948.
-#[cycle(arg_args_array_arrays_binary_both_build_call_cast_field_gather_index_infer_ite_item_items_iter_iter_from_merge_unary_value_values_when)]
+#[cycle(inference)]
 fn call(
     kinds: &[u8],
     words: &[u64],
@@ -557,7 +557,7 @@ fn call(
 }
 
 // An item of the array at `step`, whose first item has the type `first`, lib.rs 1114: E0124.
-#[cycle(arg_args_array_arrays_binary_both_build_call_cast_field_gather_index_infer_ite_item_items_iter_iter_from_merge_unary_value_values_when)]
+#[cycle(inference)]
 fn item(
     kinds: &[u8],
     words: &[u64],
@@ -589,7 +589,7 @@ fn item(
 }
 
 // The items of an array behind the first.
-#[cycle(arg_args_array_arrays_binary_both_build_call_cast_field_gather_index_infer_ite_item_items_iter_iter_from_merge_unary_value_values_when)]
+#[cycle(inference)]
 fn items(
     kinds: &[u8],
     words: &[u64],
@@ -629,7 +629,7 @@ fn items(
 }
 
 // An array, lib.rs 1090: E0123, E0124.
-#[cycle(arg_args_array_arrays_binary_both_build_call_cast_field_gather_index_infer_ite_item_items_iter_iter_from_merge_unary_value_values_when)]
+#[cycle(inference)]
 fn array(
     kinds: &[u8],
     words: &[u64],
@@ -699,7 +699,7 @@ fn array(
 }
 
 // A field value at its record, lib.rs 1141, of a record whose fields are in the list at another place: E0126, E0127.
-#[cycle(arg_args_array_arrays_binary_both_build_call_cast_field_gather_index_infer_ite_item_items_iter_iter_from_merge_unary_value_values_when)]
+#[cycle(inference)]
 fn value(
     kinds: &[u8],
     words: &[u64],
@@ -752,7 +752,7 @@ fn value(
 }
 
 // The field values of a struct, and the names that they give.
-#[cycle(arg_args_array_arrays_binary_both_build_call_cast_field_gather_index_infer_ite_item_items_iter_iter_from_merge_unary_value_values_when)]
+#[cycle(inference)]
 fn values(
     kinds: &[u8],
     words: &[u64],
@@ -791,7 +791,7 @@ fn values(
 }
 
 // A struct value, lib.rs 1134.
-#[cycle(arg_args_array_arrays_binary_both_build_call_cast_field_gather_index_infer_ite_item_items_iter_iter_from_merge_unary_value_values_when)]
+#[cycle(inference)]
 fn build(
     kinds: &[u8],
     words: &[u64],
@@ -842,7 +842,7 @@ fn build(
 }
 
 // The arrays of an iterator beside the inputs of its function, whose list is at a place, lib.rs 1284: E0143.
-#[cycle(arg_args_array_arrays_binary_both_build_call_cast_field_gather_index_infer_ite_item_items_iter_iter_from_merge_unary_value_values_when)]
+#[cycle(inference)]
 fn arrays(
     kinds: &[u8],
     words: &[u64],
@@ -906,7 +906,7 @@ fn arrays(
 }
 
 // What an iterator of the function `name` has before its last tests, lib.rs 1233 to 1316: E0140 to E0144. `list` is the list of arrays.
-#[cycle(arg_args_array_arrays_binary_both_build_call_cast_field_gather_index_infer_ite_item_items_iter_iter_from_merge_unary_value_values_when)]
+#[cycle(inference)]
 fn gather(
     kinds: &[u8],
     words: &[u64],
@@ -988,7 +988,7 @@ fn gather(
 }
 
 // A map or a fold with no seed, lib.rs 1318 and 1352.
-#[cycle(arg_args_array_arrays_binary_both_build_call_cast_field_gather_index_infer_ite_item_items_iter_iter_from_merge_unary_value_values_when)]
+#[cycle(inference)]
 fn iter(
     kinds: &[u8],
     words: &[u64],
@@ -1035,7 +1035,7 @@ fn iter(
 }
 
 // A map or a fold with a seed: a map does not type its seed, a fold types it behind its arrays, lib.rs 1380.
-#[cycle(arg_args_array_arrays_binary_both_build_call_cast_field_gather_index_infer_ite_item_items_iter_iter_from_merge_unary_value_values_when)]
+#[cycle(inference)]
 fn iter_from(
     kinds: &[u8],
     words: &[u64],
@@ -1089,7 +1089,7 @@ fn iter_from(
 }
 
 // The expression at a place, under a hint: `infer_expr_type`, lib.rs 710.
-#[cycle(arg_args_array_arrays_binary_both_build_call_cast_field_gather_index_infer_ite_item_items_iter_iter_from_merge_unary_value_values_when)]
+#[cycle(inference)]
 pub fn infer(
     kinds: &[u8],
     words: &[u64],
