@@ -9,7 +9,6 @@ use mathlib.Core.List.{List, ◌∷◌}
 use mathlib.Core.Option.{some}
 use lib.ListN.{length, get_or}
 use Rattle.lustre.specs.Name.{Name, ◌is◌, ◌among◌}
-use Rattle.lustre.specs.Types.{levels}
 use Rattle.lustre.specs.Expr.{size}
 use Rattle.lustre.specs.Project.{skeleton}
 use Rattle.lustre.specs.Resolve.{context}

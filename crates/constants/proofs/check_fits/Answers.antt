@@ -1,0 +1,18 @@
+-- `constants::check_fits` meets its contract. Assumes nothing.
+use mathlib.Core.Path.{sym, ◌∙◌}
+use Rattle.lustre.specs.Project.{skeleton}
+use Rattle.lustre.specs.Resolve.{context}
+use Rattle.lines.proofs.Laws.{noted_none, noted_about}
+use Rattle.scope.proofs.World.{apart, types_targets}
+use Rattle.constants.proofs.Values.{value_fits, value_unfit}
+use Rattle.constants.proofs.Given.{name_number, alias_table}
+use Rattle.constants.proofs.check_fits.Goals as goal
+
+pub compatible-requires : goal.compatible-requires
+compatible-requires c = ((types_targets c.requires.0.declared).0, c.requires.1)
+
+pub returns-then-compatible : goal.returns-then-compatible
+returns-then-compatible c = λ g e. rw (value_fits (context (skeleton g.model.P)) g.c _ e (sym (c.compatible.ensures g.model.text (apart g.model) _ (alias_table g)) ∙ c.if-compatible.true)) noted_none
+
+pub returns : goal.returns
+returns c = λ g e. rw (value_unfit (context (skeleton g.model.P)) g.c _ e (sym (c.compatible.ensures g.model.text (apart g.model) _ (alias_table g)) ∙ c.if-compatible.false)) (noted_about g.c.name (name_number g) c.put_line.ensures)
