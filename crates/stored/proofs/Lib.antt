@@ -1,2 +1,1 @@
-pub mod Loan
 pub mod Laws
