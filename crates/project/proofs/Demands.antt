@@ -178,6 +178,7 @@ kept_in f (y ∷ l) x xs e = go (f y) e (kept_in f l x xs)
 
 -- where nothing is kept, no element passes the test
 kept_none : {A : Type 0} (f : A → Bool) (l : List A) (x : A) → Memᴰ x l → f x ≡ true → keep f l ≡ [] → ⊥
+kept_none f [] x m t k = elim m [ ]
 kept_none f (y ∷ l) x (Memᴰ.head e) t k = cons≢nil (rw (sym e, t) at k)
 kept_none f (y ∷ l) x (Memᴰ.tail m) t k = go (f y) k (kept_none f l x m t)
   where
