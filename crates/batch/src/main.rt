@@ -4,6 +4,8 @@
 #![tactic(auto)]
 
 use cases::{little, print_part, read_part};
+use std::io;
+use std::io::Read;
 
 // Room for a file of a few bytes more than any that is not refusal 1.
 const FILE: usize = 60000;
@@ -19,54 +21,74 @@ const OUT: usize = 175161;
 // The most models that are read.
 const MOST: u64 = 100000000;
 
-// Makes the call on a file with this work memory and room for lines lent, and prints what is said; false where it can't be written.
-fn print_answer(file: &[u8], work: &mut [u64], room: usize, out: &mut [u8]) -> bool {
+// Makes the call on a file with this work memory and room for lines lent, and prints what is said; false where it does not fit.
+fn print_answer(
+    rt: &impl Print,
+    file: &[u8],
+    work: &mut [u64],
+    room: usize,
+    out: &mut [u8],
+) -> io::Result<bool> {
     let r = response::answer_to(file, work, room);
     let n = response::render(out, format::text_in(file), r);
-    if !print_part(out, n) {
-        return false;
+    if !print_part(rt, out, n)? {
+        return Ok(false);
     }
-    io::write_all(1, b"\n")
+    rt.write_all(b"\n")?;
+    Ok(true)
 }
 
 // Reads the next model and prints what is said of it; false where there is none or it does not fit.
-fn model(file: &mut [u8], work: &mut [u64], out: &mut [u8]) -> bool {
+fn model(
+    reader: &mut impl Read,
+    rt: &impl Print,
+    file: &mut [u8],
+    work: &mut [u64],
+    out: &mut [u8],
+) -> io::Result<bool> {
     let mut head = [0u8; 12];
-    if !read_part(&mut head, 12) {
-        return false;
+    if !read_part(reader, &mut head, 12)? {
+        return Ok(false);
     }
     let work_count = little(&head, 0, 4) as usize;
     let room = little(&head, 4, 4) as usize;
     let size = little(&head, 8, 4) as usize;
-    if !read_part(file, size) {
-        return false;
+    if !read_part(reader, file, size)? {
+        return Ok(false);
     }
     if size > file.len() {
-        return false;
+        return Ok(false);
     }
     if work_count > work.len() {
-        return false;
+        return Ok(false);
     }
     if room > LINES {
-        return false;
+        return Ok(false);
     }
-    print_answer(&file[..size], &mut work[..work_count], room, out)
+    print_answer(rt, &file[..size], &mut work[..work_count], room, out)
 }
 
 // Reads models until there are no more.
-fn run(file: &mut [u8], work: &mut [u64], out: &mut [u8]) {
+fn run(
+    reader: &mut impl Read,
+    rt: &impl Print,
+    file: &mut [u8],
+    work: &mut [u64],
+    out: &mut [u8],
+) -> io::Result<()> {
     let mut left = MOST;
     while left > 0 {
-        if !model(file, work, out) {
-            return;
+        if !model(reader, rt, file, work, out)? {
+            return Ok(());
         }
         left -= 1;
     }
+    Ok(())
 }
 
-fn main() {
+fn main(rt: HostRuntime) -> io::Result<()> {
     let mut file = [0u8; FILE];
     let mut work = [0u64; WORK];
     let mut out = [0u8; OUT];
-    run(&mut file, &mut work, &mut out);
+    run(&mut rt.reader(), &rt, &mut file, &mut work, &mut out)
 }

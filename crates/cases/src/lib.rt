@@ -6,6 +6,8 @@
 ghost use Rattle.std.specs.Prelude.{◌<◌};
 
 use lustre::Line;
+use std::io;
+use std::io::{ErrorKind, Read};
 
 // The mark at place 0; those behind it are larger.
 const MARK: u64 = 6148914691236517205;
@@ -45,37 +47,42 @@ pub fn little(bytes: &[u8], at: usize, n: usize) -> u64 {
 }
 
 // Reads n bytes to the start of a buffer; false where they don't fit or the input ends.
-pub fn read_part(buffer: &mut [u8], n: usize) -> bool {
+pub fn read_part(reader: &mut impl Read, buffer: &mut [u8], n: usize) -> io::Result<bool> {
     if n > buffer.len() {
-        return false;
+        return Ok(false);
     }
-    let part = &mut buffer[..n];
-    io::read_full(0, part) >= n
+    match reader.read_exact(&mut buffer[..n]) {
+        Ok(()) => Ok(true),
+        Err(e) if e.kind() == ErrorKind::UnexpectedEof => Ok(false),
+        Err(e) => Err(e),
+    }
 }
 
-// Prints the first n bytes of a buffer; false where there are fewer or they can't be written.
-pub fn print_part(buffer: &[u8], n: usize) -> bool {
+// Prints the first n bytes of a buffer; false where there are fewer.
+pub fn print_part(rt: &impl Print, buffer: &[u8], n: usize) -> io::Result<bool> {
     if n > buffer.len() {
-        return false;
+        return Ok(false);
     }
-    io::write_all(1, &buffer[..n])
+    rt.write_all(&buffer[..n])?;
+    Ok(true)
 }
 
 // Reads the label of the next case, its length before it, and prints it; false where there is none.
-pub fn label() -> bool {
+pub fn label(reader: &mut impl Read, rt: &impl Print) -> io::Result<bool> {
     let mut size = [0u8; 1];
-    if !read_part(&mut size, 1) {
-        return false;
+    if !read_part(reader, &mut size, 1)? {
+        return Ok(false);
     }
     let n = little(&size, 0, 1) as usize;
     let mut text = [0u8; 256];
-    if !read_part(&mut text, n) {
-        return false;
+    if !read_part(reader, &mut text, n)? {
+        return Ok(false);
     }
-    if !print_part(&text, n) {
-        return false;
+    if !print_part(rt, &text, n)? {
+        return Ok(false);
     }
-    io::write_all(1, b": ")
+    rt.write_all(b": ")?;
+    Ok(true)
 }
 
 // The mark of a place.

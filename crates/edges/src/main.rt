@@ -2,6 +2,8 @@
 // tests/edges/make makes its standard input.
 #![tactic(auto)]
 
-fn main() {
-    trials::run();
+use std::io;
+
+fn main(rt: HostRuntime) -> io::Result<()> {
+    trials::run(&mut rt.reader(), &rt)
 }

@@ -2,6 +2,8 @@
 // difference. `tools/rules write` makes its standard input out of tests/rules and tests/differences.
 #![tactic(auto)]
 
-fn main() {
-    trials::run();
+use std::io;
+
+fn main(rt: HostRuntime) -> io::Result<()> {
+    trials::run(&mut rt.reader(), &rt)
 }

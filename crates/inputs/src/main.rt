@@ -6,6 +6,8 @@
 use cases::{label, little, read_part};
 use input::Input;
 use lustre::refusal_numbers;
+use std::io;
+use std::io::Read;
 
 // Room for the kinds and words of a case, for its words' bytes and for its text: a little more than document 01 lets pass.
 const RECORDS: usize = 4200;
@@ -26,28 +28,20 @@ fn decode(bytes: &[u8], words: &mut [u64]) {
     }
 }
 
-fn print_answer(a: Input) {
+fn print_answer(rt: &impl Print, a: Input) -> io::Result<()> {
     match a {
-        Input::Accepted(names) => {
-            io::write_all(1, b"accepted ");
-            io::print_decimal(1, names);
-        }
-        Input::Blank => {
-            io::write_all(1, b"blank");
-        }
+        Input::Accepted(names) => println!(rt; "accepted {names}"),
+        Input::Blank => println!(rt; "blank"),
         Input::Refused(r) => {
             let n = refusal_numbers(r);
-            io::write_all(1, b"refused ");
-            io::print_decimal(1, n.refusal);
-            io::write_all(1, b" at ");
-            io::print_decimal(1, n.first);
+            println!(rt; "refused {} at {}", n.refusal, n.first)
         }
     }
-    io::write_all(1, b"\n");
 }
 
 // Checks a case and prints the answer; false where a count is past its buffer.
 fn check_case(
+    rt: &impl Print,
     kinds: &[u8],
     kind_count: usize,
     words: &[u64],
@@ -55,30 +49,31 @@ fn check_case(
     text: &[u8],
     size: usize,
     work: usize,
-) -> bool {
+) -> io::Result<bool> {
     if kind_count > kinds.len() {
-        return false;
+        return Ok(false);
     }
     if word_count > words.len() {
-        return false;
+        return Ok(false);
     }
     if size > text.len() {
-        return false;
+        return Ok(false);
     }
-    print_answer(input::check_input(
+    let answer = input::check_input(
         &kinds[..kind_count],
         &words[..word_count],
         &text[..size],
         work,
-    ));
-    true
+    );
+    print_answer(rt, answer)?;
+    Ok(true)
 }
 
 // Reads one case, checks it and prints the answer; false where it does not fit or ends early.
-fn case() -> bool {
+fn case(reader: &mut impl Read, rt: &impl Print) -> io::Result<bool> {
     let mut head = [0u8; 16];
-    if !read_part(&mut head, 16) {
-        return false;
+    if !read_part(reader, &mut head, 16)? {
+        return Ok(false);
     }
     let kind_count = little(&head, 0, 4) as usize;
     let word_count = little(&head, 4, 4) as usize;
@@ -87,32 +82,36 @@ fn case() -> bool {
     let mut kinds = [0u8; RECORDS];
     let mut bytes = [0u8; WORD_BYTES];
     let mut text = [0u8; TEXT];
-    if !read_part(&mut kinds, kind_count) {
-        return false;
+    if !read_part(reader, &mut kinds, kind_count)? {
+        return Ok(false);
     }
     if word_count > RECORDS {
-        return false;
+        return Ok(false);
     }
-    if !read_part(&mut bytes, 8 * word_count) {
-        return false;
+    if !read_part(reader, &mut bytes, 8 * word_count)? {
+        return Ok(false);
     }
-    if !read_part(&mut text, size) {
-        return false;
+    if !read_part(reader, &mut text, size)? {
+        return Ok(false);
     }
     let mut words = [0u64; RECORDS];
     decode(&bytes, &mut words);
-    check_case(&kinds, kind_count, &words, word_count, &text, size, work)
+    check_case(
+        rt, &kinds, kind_count, &words, word_count, &text, size, work,
+    )
 }
 
-fn main() {
+fn main(rt: HostRuntime) -> io::Result<()> {
+    let mut reader = rt.reader();
     let mut left: u64 = 4096;
     while left > 0 {
-        if !label() {
-            return;
+        if !label(&mut reader, &rt)? {
+            return Ok(());
         }
-        if !case() {
-            return;
+        if !case(&mut reader, &rt)? {
+            return Ok(());
         }
         left -= 1;
     }
+    Ok(())
 }

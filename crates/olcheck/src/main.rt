@@ -1,8 +1,15 @@
 // Document 01's program `check`: reads a file from standard input and prints the report on it, or the refusal. It also writes one digit to
-// file descriptor 3, if that is open: 0 for a report without an error, 1 for one with an error, 2 for a refusal.
+// file descriptor 3, if that is open for writing: 0 for a report without an error, 1 for one with an error, 2 for a refusal.
 #![tactic(auto)]
 
+ghost use Rattle.std.specs.Prelude.{◌≤◌, length, IfOk};
+
 use response::respond;
+use std::fs::OpenOptions;
+use std::io::{Read, Write};
+use std::os::unix::fs::PermissionsExt;
+use std::rt::Files;
+use std::{fs, io};
 
 // One byte more than the longest file that is not refusal 1, so that a longer one is seen to be wrong.
 const FILE: usize = 53257;
@@ -10,27 +17,53 @@ const FILE: usize = 53257;
 // Room for what is printed: a header of at most 57 bytes and 1,024 lines of at most 171.
 const OUT: usize = 175161;
 
-// Writes the digit of a status; that the descriptor may be closed is no fault.
-fn tell(status: u64) {
-    if status == 0 {
-        io::write_all(3, b"0");
-        return;
+// The name of file descriptor 3. It is a link, whose own mode says how the descriptor is open.
+const DESCRIPTOR: &str = "/proc/self/fd/3";
+
+// Reads until the buffer is full or the input ends, and returns how many bytes it put at its start.
+fn read_full(reader: &mut impl Read, buffer: &mut [u8]) -> io::Result<usize>
+    ensures { IfOk result (λ n. n ≤ length buffer.new) }
+{
+    let mut done = 0;
+    while done < buffer.len() {
+        let n = reader.read(&mut buffer[done..])?;
+        if n == 0 {
+            break;
+        }
+        done += n;
     }
-    if status == 1 {
-        io::write_all(3, b"1");
-        return;
-    }
-    io::write_all(3, b"2");
+    Ok(done)
 }
 
-fn main() {
+// Writes a digit to file descriptor 3, or fails where that is closed or only open for reading.
+fn write_digit(rt: &impl Files, digit: &[u8]) -> io::Result<()> {
+    let mode = fs::symlink_metadata(rt, DESCRIPTOR)?.permissions().mode();
+    if mode & 0o200 == 0 {
+        return Err(io::Error::from(io::ErrorKind::PermissionDenied));
+    }
+    OpenOptions::new()
+        .append(true)
+        .open(rt, DESCRIPTOR)?
+        .write_all(digit)
+}
+
+// Writes the digit of a status; that the descriptor may be closed is no fault.
+fn tell(rt: &impl Files, status: u64) {
+    let digit = match status {
+        0 => b"0",
+        1 => b"1",
+        _ => b"2",
+    };
+    let _ = write_digit(rt, digit);
+}
+
+fn main(rt: HostRuntime) -> io::Result<()> {
     let mut file = [0u8; FILE];
-    let n = io::read_full(0, &mut file);
+    let n = read_full(&mut rt.reader(), &mut file)?;
     let mut out = [0u8; OUT];
     let r = respond(&file[..n], &mut out);
     let size = r.size;
-    if !io::write_all(1, &out[..size]) {
-        return;
-    }
-    tell(r.status);
+    rt.write_all(&out[..size])?;
+    tell(&rt, r.status);
+    Ok(())
 }

@@ -5,6 +5,8 @@
 
 use cases::{little, read_part};
 use checker::Report;
+use std::io;
+use std::io::Read;
 
 // The longest file that is not refusal 1: 8 bytes, 9 for each of 4,096 records, and 16,384 of text.
 const FILE: usize = 53256;
@@ -59,56 +61,52 @@ fn agrees(file: &[u8], size: usize, count: usize, followed: u64, due: &[u8]) -> 
 }
 
 // Reads the next model and what is due, and runs it.
-fn replay() -> Outcome {
+fn replay(reader: &mut impl Read) -> io::Result<Outcome> {
     let mut head = [0u8; 16];
-    if !read_part(&mut head, 16) {
-        return Outcome::Ended;
+    if !read_part(reader, &mut head, 16)? {
+        return Ok(Outcome::Ended);
     }
     let size = little(&head, 0, 4) as usize;
     let count = little(&head, 4, 4) as usize;
     let followed = little(&head, 8, 8);
     let mut file = [0u8; FILE];
-    if !read_part(&mut file, size) {
-        return Outcome::Ended;
+    if !read_part(reader, &mut file, size)? {
+        return Ok(Outcome::Ended);
     }
     if count > LINES {
-        return Outcome::Ended;
+        return Ok(Outcome::Ended);
     }
     let mut due = [0u8; LINE_BYTES];
-    if !read_part(&mut due, 48 * count) {
-        return Outcome::Ended;
+    if !read_part(reader, &mut due, 48 * count)? {
+        return Ok(Outcome::Ended);
     }
     if agrees(&file, size, count, followed, &due) {
-        return Outcome::Agrees;
+        return Ok(Outcome::Agrees);
     }
-    Outcome::Differs
+    Ok(Outcome::Differs)
 }
 
 // Prints the number of a model that differs.
-fn print_differs(number: u64) {
-    io::write_all(1, b"model ");
-    io::print_decimal(1, number);
-    io::write_all(1, b" differs\n");
+fn print_differs(rt: &impl Print, number: u64) -> io::Result<()> {
+    println!(rt; "model {number} differs")
 }
 
 // Prints how many models were run and how many of them agree.
-fn print_counts(models: u64, agree: u64) {
-    io::print_decimal(1, models);
-    io::write_all(1, b" models, ");
-    io::print_decimal(1, agree);
-    io::write_all(1, b" agree\n");
+fn print_counts(rt: &impl Print, models: u64, agree: u64) -> io::Result<()> {
+    println!(rt; "{models} models, {agree} agree")
 }
 
-fn main() {
+fn main(rt: HostRuntime) -> io::Result<()> {
+    let mut reader = rt.reader();
     let mut models: u64 = 0;
     let mut agree: u64 = 0;
     while models < MOST {
-        match replay() {
+        match replay(&mut reader)? {
             Outcome::Ended => {
                 break;
             }
             Outcome::Differs => {
-                print_differs(models);
+                print_differs(&rt, models)?;
                 models += 1;
             }
             Outcome::Agrees => {
@@ -117,5 +115,5 @@ fn main() {
             }
         }
     }
-    print_counts(models, agree);
+    print_counts(&rt, models, agree)
 }

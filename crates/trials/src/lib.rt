@@ -6,6 +6,8 @@
 use cases::{label, little, read_part};
 use checker::Report;
 use lustre::Answer;
+use std::io;
+use std::io::Read;
 
 // Room for a file of a few bytes more than any that is not refusal 1, and for what is printed.
 const FILE: usize = 60000;
@@ -77,6 +79,7 @@ fn agrees(file: &[u8], work: usize, room: usize, text: &[u8], due: &[u8], stored
 
 // Prints what became of a case; false where a size is past its buffer.
 fn print_case(
+    rt: &impl Print,
     file: &[u8],
     size: usize,
     work: usize,
@@ -85,24 +88,26 @@ fn print_case(
     printed: usize,
     due: &[u8],
     stored: usize,
-) -> bool {
+) -> io::Result<bool> {
     if size > file.len() {
-        return false;
+        return Ok(false);
     }
     if printed > text.len() {
-        return false;
+        return Ok(false);
     }
     if agrees(&file[..size], work, room, &text[..printed], due, stored) {
-        return io::write_all(1, b"agrees\n");
+        println!(rt; "agrees")?;
+        return Ok(true);
     }
-    io::write_all(1, b"differs\n")
+    println!(rt; "differs")?;
+    Ok(true)
 }
 
 // Reads a case behind its label and runs it; false where it does not fit or ends early.
-fn case() -> bool {
+fn case(reader: &mut impl Read, rt: &impl Print) -> io::Result<bool> {
     let mut head = [0u8; 20];
-    if !read_part(&mut head, 20) {
-        return false;
+    if !read_part(reader, &mut head, 20)? {
+        return Ok(false);
     }
     let work = little(&head, 0, 4) as usize;
     let room = little(&head, 4, 4) as usize;
@@ -110,33 +115,34 @@ fn case() -> bool {
     let printed = little(&head, 12, 4) as usize;
     let stored = little(&head, 16, 4) as usize;
     if stored > LINES {
-        return false;
+        return Ok(false);
     }
     let mut file = [0u8; FILE];
     let mut text = [0u8; TEXT];
     let mut due = [0u8; LINE_BYTES];
-    if !read_part(&mut file, size) {
-        return false;
+    if !read_part(reader, &mut file, size)? {
+        return Ok(false);
     }
-    if !read_part(&mut text, printed) {
-        return false;
+    if !read_part(reader, &mut text, printed)? {
+        return Ok(false);
     }
-    if !read_part(&mut due, 48 * stored) {
-        return false;
+    if !read_part(reader, &mut due, 48 * stored)? {
+        return Ok(false);
     }
-    print_case(&file, size, work, room, &text, printed, &due, stored)
+    print_case(rt, &file, size, work, room, &text, printed, &due, stored)
 }
 
 // Runs the cases until there are no more; it stops at the first that does not fit its buffers.
-pub fn run() {
+pub fn run(reader: &mut impl Read, rt: &impl Print) -> io::Result<()> {
     let mut left = MOST;
     while left > 0 {
-        if !label() {
-            return;
+        if !label(reader, rt)? {
+            return Ok(());
         }
-        if !case() {
-            return;
+        if !case(reader, rt)? {
+            return Ok(());
         }
         left -= 1;
     }
+    Ok(())
 }
