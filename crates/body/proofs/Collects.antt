@@ -1,5 +1,6 @@
 -- The walk of `immediate_reads`: what each record does to the set of names, and to the names that are still to be read.
 -- Assumes nothing.
+use Rattle.std.specs.Prelude.{if◌then◌else◌}
 use Prim.Native.Nat.{ℕ, ◌+◌, ◌-◌, ◌<◌}
 use mathlib.Core.Path.{◌≡◌, refl, sym, subst, ◌∙◌}
 use mathlib.Core.Bool.{true, ◌||◌, or_assoc, or-false}
@@ -8,7 +9,7 @@ use mathlib.Core.List.{List, [], ◌∷◌, ◌++◌}
 use lib.Dec.{eqb}
 use lib.ListN.{length, get_or}
 use borrow.Author.Tests.{eqb-true, eqb-false}
-use Rattle.lustre.specs.Name.{Name, if◌then◌else◌, ◌is◌, ◌among◌, mem}
+use Rattle.lustre.specs.Name.{Name, ◌is◌, ◌among◌, mem}
 use Rattle.lustre.specs.Expr.{Expr, size, pre}
 use Rattle.lustre.specs.Deps.{reads}
 use Rattle.demands.proofs.Sets.{split, mustnt, mem_eq, mem_ne}

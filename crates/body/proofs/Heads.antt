@@ -1,12 +1,13 @@
 -- What the kind of a part's first record says: whether it is temporal, whether it is an iterator, and which name it reads.
 -- Assumes nothing.
+use Rattle.std.specs.Prelude.{if◌then◌else◌}
 use Prim.Native.Nat.{ℕ, ◌<◌}
 use mathlib.Core.Path.{◌≡◌, refl, sym, ◌∙◌}
 use mathlib.Core.Bool.{Bool, true, false, true≢false}
 use mathlib.Core.List.{[], ◌∷◌}
 use lib.Dec.{eqb}
 use borrow.Author.Tests.{ne_eqb}
-use Rattle.lustre.specs.Name.{Name, if◌then◌else◌, mem}
+use Rattle.lustre.specs.Name.{Name, mem}
 use Rattle.lustre.specs.Types.{basic, Array, Named, Tuple}
 use Rattle.lustre.specs.Expr.{Literal, UnaryOp, BinOp, IterKind, form, literal_form}
 use Rattle.lustre.specs.Expr.{const, var, unary, binary, ite, pre, arrow, call, field, index, tuple, array, struct, cast, when, merge, iterate, iterate_from}

@@ -1,12 +1,13 @@
 -- A scan of all records of a right-hand side shows each sub-expression once, in order: the first temporal operator, and each iterator.
 -- Assumes nothing.
+use Rattle.std.specs.Prelude.{if◌then◌else◌}
 use Prim.Native.Nat.{ℕ, ◌+◌, ◌≤◌, ◌<◌}
 use native.Mathlib.Omega.{arith}
 use mathlib.Core.Path.{◌≡◌, refl, ap}
 use mathlib.Core.Bool.{true, false, ◌||◌}
 use mathlib.Core.List.{List, [], ◌∷◌, ◌++◌, tail}
 use lib.ListN.{length}
-use Rattle.lustre.specs.Name.{Name, if◌then◌else◌}
+use Rattle.lustre.specs.Name.{Name}
 use Rattle.lustre.specs.Expr.{Expr, Form, integer, temporal, iterator, calling, other, form, any_temporal, contains_temporal, size}
 use Rattle.lustre.specs.Placement.{iterators, nested}
 use Rattle.lines.specs.Lines.{Noted}

@@ -4,8 +4,8 @@
 // an arrow is judged otherwise than its surroundings: so it nests no deeper than the expression's 60 levels.
 #![tactic(auto)]
 
-ghost use Rattle.std.specs.Prelude.{ℕ, ◌+◌, ◌<◌, ◌≤◌, ◌≡◌, true, [], ◌∷◌, length};
-ghost use Rattle.lustre.specs.Name.{Name, if◌then◌else◌};
+ghost use Rattle.std.specs.Prelude.{ℕ, ◌+◌, ◌<◌, ◌≤◌, ◌≡◌, true, [], ◌∷◌, length, if◌then◌else◌};
+ghost use Rattle.lustre.specs.Name.{Name};
 ghost use Rattle.lustre.specs.Expr.{contains_temporal};
 ghost use Rattle.lustre.specs.Placement.{nested};
 ghost use Rattle.lines.specs.Lines.{Noted};

@@ -1,11 +1,12 @@
 -- The notes of a constant's value: E0004, those of inference and E0005 one after another.
 -- Assumes nothing.
+use Rattle.std.specs.Prelude.{if◌then◌else◌}
 use Prim.Native.Nat.{ℕ}
 use mathlib.Core.Path.{◌≡◌, refl}
 use mathlib.Core.Bool.{Bool, true, false}
 use mathlib.Core.List.{List, [], ◌∷◌}
 use mathlib.Core.Option.{Option, none, some}
-use Rattle.lustre.specs.Name.{Name, if◌then◌else◌, lookup}
+use Rattle.lustre.specs.Name.{Name, lookup}
 use Rattle.lustre.specs.Types.{Ty}
 use Rattle.lustre.specs.Expr.{contains_temporal}
 use Rattle.lustre.specs.Project.{Constant, Skeleton}

@@ -2,9 +2,9 @@
 // and E0005. E0070 and E0146 are not asked of a constant's value.
 #![tactic(auto)]
 
-ghost use Rattle.std.specs.Prelude.{ℕ, ◌+◌, ◌≤◌, ◌≡◌, true, List, [], ◌∷◌, length};
+ghost use Rattle.std.specs.Prelude.{ℕ, ◌+◌, ◌≤◌, ◌≡◌, true, List, [], ◌∷◌, length, if◌then◌else◌};
 ghost use Rattle.std.proofs.Math.Option.{some};
-ghost use Rattle.lustre.specs.Name.{Name, if◌then◌else◌, ◌among◌};
+ghost use Rattle.lustre.specs.Name.{Name, ◌among◌};
 ghost use Rattle.lustre.specs.Types.{levels};
 ghost use Rattle.lustre.specs.Expr.{contains_temporal};
 ghost use Rattle.lustre.specs.Project.{skeleton};

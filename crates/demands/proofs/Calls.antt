@@ -1,5 +1,6 @@
 -- What a call that gets a report says: no refusal applies, and its lines are the report's, with names as texts.
 -- Assumes nothing.
+use Rattle.std.specs.Prelude.{if◌then◌else◌}
 use Prim.Native.Nat.{ℕ, ◌≤◌, ◌<◌, min}
 use native.Mathlib.Omega.{arith}
 use mathlib.Core.Path.{◌≡◌, refl, sym, ap, ◌∙◌}
@@ -10,7 +11,7 @@ use lib.Dec.{leb}
 use lib.ListN.{length, take, drop, length-map}
 use lib.Seq.{take_all, take_at}
 use borrow.Author.Tests.{leb-true, lt-ltb, ne_eqb}
-use Rattle.lustre.specs.Name.{Name, if◌then◌else◌, ◌among◌}
+use Rattle.lustre.specs.Name.{Name, ◌among◌}
 use Rattle.lustre.specs.Names.{bad_name, names_of, number_of}
 use Rattle.lustre.specs.Records.{bad_record}
 use Rattle.lustre.specs.Project.{Project}

@@ -1,10 +1,11 @@
 -- What holds of each element of lists holds of each element of lists made of them, and of what is looked up in them.
 -- Assumes nothing.
+use Rattle.std.specs.Prelude.{if◌then◌else◌}
 use mathlib.Core.Path.{refl, sym, subst}
 use mathlib.Core.Bool.{Bool, true, false}
 use mathlib.Core.List.{List, [], ◌∷◌, ◌++◌, map, Memᴰ}
 use mathlib.Core.Option.{Option, none, some}
-use Rattle.lustre.specs.Name.{Name, if◌then◌else◌, ◌is◌, ◌or◌, lookup}
+use Rattle.lustre.specs.Name.{Name, ◌is◌, ◌or◌, lookup}
 use Rattle.demands.specs.Reading.{Each}
 
 -- P holds of the answer, if there is one

@@ -1,5 +1,6 @@
 -- The search of a node's equations: its path is a closed path of edges, it finds one wherever there is one, the Rust's search finds the
 -- same, and it looks at most once along each edge. Assumes nothing.
+use Rattle.std.specs.Prelude.{if◌then◌else◌}
 use Prim.Native.Nat.{◌≤◌}
 use native.Mathlib.Nat.{le_refl}
 use mathlib.Core.Path.{◌≡◌, refl, sym, ap, subst, ◌∙◌}
@@ -9,7 +10,7 @@ use mathlib.Core.List.Memᴰ
 use mathlib.Core.List.{List, [], ◌∷◌, ◌++◌, Memᴰ}
 use mathlib.Core.Option.{none, some}
 use lib.ListN.{length}
-use Rattle.lustre.specs.Name.{Name, ◌is◌, ◌among◌, set_of, if◌then◌else◌}
+use Rattle.lustre.specs.Name.{Name, ◌is◌, ◌among◌, set_of}
 use Rattle.lustre.specs.Project.{Equation}
 use Rattle.lustre.specs.Deps.{reads, defined, read_in, read_by, successors, rust_equations}
 use Rattle.lustre.specs.Walk.{path_of, looks_of, graph_names, search, dfs_search, rust_search}

@@ -1,12 +1,12 @@
 -- An integer's type holds it, and one without a type fits neither its hint nor Int32.
 -- Assumes nothing.
+use Rattle.std.specs.Prelude.{if◌then◌else◌}
 use Prim.Native.Nat.{ℕ}
 use native.Mathlib.Omega.{arith}
 use mathlib.Core.Path.{◌≡◌, refl, sym}
 use mathlib.Core.Bool.{Bool, true, false}
 use mathlib.Core.Option.{Option, none, some}
 use lib.IntN.{ℤ}
-use Rattle.lustre.specs.Name.{if◌then◌else◌}
 use Rattle.lustre.specs.Types.{Ty, Int32}
 use Rattle.lustre.specs.Resolve.{resolve}
 use Rattle.lustre.specs.Literal.{fits, int32_type, integer_type}

@@ -1,9 +1,9 @@
 -- What `keep` keeps of lists made of others, and lists of which it keeps nothing.
 -- Assumes nothing.
+use Rattle.std.specs.Prelude.{if◌then◌else◌}
 use mathlib.Core.Path.{◌≡◌, refl, ap}
 use mathlib.Core.Bool.{Bool, true, false}
 use mathlib.Core.List.{List, [], ◌∷◌, ◌++◌, map, append-nil, cons≢nil}
-use Rattle.lustre.specs.Name.{if◌then◌else◌}
 use Rattle.demands.specs.Nodes.{keep}
 
 pub keep_append : {A : Type 0} (f : A → Bool) (xs ys : List A) → keep f (xs ++ ys) ≡ keep f xs ++ keep f ys

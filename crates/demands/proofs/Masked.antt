@@ -1,6 +1,7 @@
 -- The records with `false` for one right-hand side are those of the project with `false` there, so records are equal but for it exactly if the
 -- projects are.
 -- Assumes nothing.
+use Rattle.std.specs.Prelude.{if◌then◌else◌}
 use Prim.Native.Nat.{ℕ, zero, suc, ◌-◌, ◌<◌, ◌≤◌}
 use native.Mathlib.Omega.{arith}
 use mathlib.Core.Path.{◌≡◌, refl, sym, ◌∙◌, ap}
@@ -10,7 +11,7 @@ use lib.Dec.{eqb, ltb}
 use lib.ListN.{length, length-map}
 use lib.Seq.{take_at, drop_at}
 use borrow.Author.Tests.{ltb-true, ltb-false}
-use Rattle.lustre.specs.Name.{Name, if◌then◌else◌, mem}
+use Rattle.lustre.specs.Name.{Name, mem}
 use Rattle.lustre.specs.Records.{Rec}
 use Rattle.lustre.specs.Expr.{Expr}
 use Rattle.lustre.specs.Project.{Port, Equation, Node, Package, Project}

@@ -1,5 +1,6 @@
 -- The records of a node are found by their kinds alone, and the records outside nodes' locals, equations and probes tell the skeleton.
 -- Assumes nothing.
+use Rattle.std.specs.Prelude.{if◌then◌else◌}
 use Prim.Native.Nat.{ℕ, zero, suc}
 use mathlib.Core.Path.{◌≡◌, refl, ap, sym, ◌∙◌}
 use mathlib.Core.Bool.{true}
@@ -7,7 +8,7 @@ use mathlib.Core.List.{List, [], ◌∷◌, ◌++◌, map}
 use mathlib.Core.Option.{none}
 use lib.Dec.{eqb}
 use lib.ListN.{length, get_elem?}
-use Rattle.lustre.specs.Name.{if◌then◌else◌, mem}
+use Rattle.lustre.specs.Name.{mem}
 use Rattle.lustre.specs.Records.{Rec}
 use Rattle.lustre.specs.Project.{NodeKind, Function, Operator, Imported, Node, Heading, PackageOf, Package, Project, heading, skeleton, all_nodes}
 use Rattle.lustre.specs.Grammar.{node_kind, numbered_rec, named_rec, each_of, list_of, flat_port, flat_decl, flat_constant, flat_node, flat_package, flat_project}

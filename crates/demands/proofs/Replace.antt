@@ -1,5 +1,6 @@
 -- Replacing a right-hand side: what stays of a project, and that two projects are equal but for it exactly if one is the other with it replaced.
 -- Assumes nothing.
+use Rattle.std.specs.Prelude.{if◌then◌else◌}
 use Prim.Native.Nat.{ℕ, zero, suc, ◌-◌, ◌<◌, ◌≤◌}
 use native.Mathlib.Omega.{arith}
 use mathlib.Core.Path.{◌≡◌, refl, sym, ◌∙◌, ap, ap₂}
@@ -8,7 +9,6 @@ use mathlib.Core.List.{List, [], ◌∷◌, ◌++◌, map}
 use lib.Dec.{ltb}
 use lib.ListN.{length}
 use borrow.Author.Tests.{ltb-true, ltb-false}
-use Rattle.lustre.specs.Name.{if◌then◌else◌}
 use Rattle.lustre.specs.Expr.{Expr}
 use Rattle.lustre.specs.Project.{Equation, Node, Package, Project, heading, skeleton, all_nodes}
 use Rattle.lustre.specs.Deps.{defined}

@@ -1,9 +1,8 @@
 -- The lines about a node and about no node; and the first law of demand 3: they depend on the skeleton and that node alone.
 -- Assumes nothing: these are definitions and statements, proved in proofs/.
-use Rattle.std.specs.Prelude.{ℕ, ◌≡◌, Bool, true, false, ◌&&◌, not, List, [], ◌∷◌, eqb}
+use Rattle.std.specs.Prelude.{ℕ, ◌≡◌, Bool, true, false, ◌&&◌, not, List, [], ◌∷◌, eqb, if◌then◌else◌}
 use Rattle.std.proofs.Math.Option.{Option}
 use Rattle.std.proofs.Math.ListN.{get_elem?}
-use Rattle.lustre.specs.Name.{if◌then◌else◌}
 use Rattle.lustre.specs.Project.{Node, Project, Skeleton, skeleton, all_nodes}
 use Rattle.lustre.specs.Line.{Line, Place, at_package, at_enum, at_type, at_constant, at_node}
 use Rattle.lustre.specs.Report.{report}

@@ -1,9 +1,9 @@
 -- What one equation can move, request 2.13: where a right-hand side is replaced, the lines of its equation and its node's E0060 lines may
 -- differ, and no other line does.
 -- Assumes nothing: these are definitions and statements, proved in proofs/.
-use Rattle.std.specs.Prelude.{ℕ, zero, suc, ◌-◌, ◌≡◌, Bool, true, false, ◌&&◌, ◌||◌, not, List, [], ◌∷◌, ◌++◌, eqb, ltb, length, take, drop}
+use Rattle.std.specs.Prelude.{ℕ, zero, suc, ◌-◌, ◌≡◌, Bool, true, false, ◌&&◌, ◌||◌, not, List, [], ◌∷◌, ◌++◌, eqb, ltb, length, take, drop, if◌then◌else◌}
 use Rattle.std.proofs.Math.Option.{none}
-use Rattle.lustre.specs.Name.{if◌then◌else◌, mem}
+use Rattle.lustre.specs.Name.{mem}
 use Rattle.lustre.specs.Expr.{Expr, const, bool}
 use Rattle.lustre.specs.Project.{Equation, Node, Project}
 use Rattle.lustre.specs.Line.{Remark, Line}

@@ -1,8 +1,8 @@
 -- Request 2.8: when two tuples agree, and what is said of an equation whose right-hand side is itself a call with two or more outputs.
 -- Assumes nothing: these are statements, proved in proofs/.
-use Rattle.std.specs.Prelude.{ℕ, ◌≡◌, Bool, List, [], ◌∷◌, eqb, length}
+use Rattle.std.specs.Prelude.{ℕ, ◌≡◌, Bool, List, [], ◌∷◌, eqb, length, if◌then◌else◌}
 use Rattle.std.proofs.Math.Option.{some}
-use Rattle.lustre.specs.Name.{Name, if◌then◌else◌}
+use Rattle.lustre.specs.Name.{Name}
 use Rattle.lustre.specs.Types.{Ty, Tuple}
 use Rattle.lustre.specs.Expr.{Exprs, call, form}
 use Rattle.lustre.specs.Project.{Port, Heading}

@@ -1,12 +1,13 @@
 -- A right-hand side in the part of the records from its first record on: what its checks ask, and their notes one after another.
 -- Assumes nothing.
+use Rattle.std.specs.Prelude.{if◌then◌else◌}
 use Prim.Native.Nat.{ℕ, ◌+◌, ◌-◌, ◌<◌}
 use native.Mathlib.Omega.{arith}
 use mathlib.Core.Path.{◌≡◌}
 use mathlib.Core.Bool.{Bool, true, false, ◌&&◌}
 use mathlib.Core.List.{List, [], ◌∷◌}
 use lib.ListN.{length}
-use Rattle.lustre.specs.Name.{Name, if◌then◌else◌}
+use Rattle.lustre.specs.Name.{Name}
 use Rattle.lustre.specs.Expr.{contains_temporal, size}
 use Rattle.lustre.specs.Line.{Note, bare}
 use Rattle.lustre.specs.Placement.{nested}

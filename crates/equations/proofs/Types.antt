@@ -1,5 +1,6 @@
 -- The names assigned and the type of a right-hand side: the declared type of the one name, and E0040 and E0041 of a type that is no tuple.
 -- Assumes nothing.
+use Rattle.std.specs.Prelude.{if◌then◌else◌}
 use Prim.Native.Nat.{ℕ, ◌+◌, ◌≤◌}
 use native.Mathlib.Omega.{arith}
 use mathlib.Core.Path.{◌≡◌, refl, sym, ap, ◌∙◌}
@@ -7,7 +8,7 @@ use mathlib.Core.Bool.{Bool, true, false}
 use mathlib.Core.List.{List, [], ◌∷◌, ◌++◌}
 use mathlib.Core.Option.{Option, none, some}
 use lib.ListN.{length, get_or}
-use Rattle.lustre.specs.Name.{Name, if◌then◌else◌}
+use Rattle.lustre.specs.Name.{Name}
 use Rattle.lustre.specs.Types.{Ty, members}
 use Rattle.lustre.specs.Expr.{Form}
 use Rattle.lustre.specs.Project.{Port, skeleton}

@@ -1,8 +1,8 @@
 -- What the functions on one equation ask, and what they answer.
 -- Assumes nothing: these are definitions.
-use Rattle.std.specs.Prelude.{ℕ, ◌+◌, ◌<◌, ◌≡◌, Bool, false, ◌&&◌, ◌||◌, List, [], ◌∷◌, ◌++◌}
+use Rattle.std.specs.Prelude.{ℕ, ◌+◌, ◌<◌, ◌≡◌, Bool, false, ◌&&◌, ◌||◌, List, [], ◌∷◌, ◌++◌, if◌then◌else◌}
 use Rattle.std.proofs.Math.Option.{Option}
-use Rattle.lustre.specs.Name.{Name, if◌then◌else◌, ◌among◌, lookup}
+use Rattle.lustre.specs.Name.{Name, ◌among◌, lookup}
 use Rattle.lustre.specs.Types.{Ty}
 use Rattle.lustre.specs.Expr.{Expr, contains_temporal, form}
 use Rattle.lustre.specs.Project.{Port, Equation, Node, skeleton, port_names, is_function}

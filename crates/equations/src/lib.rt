@@ -2,9 +2,9 @@
 // immediate dependencies, lib.rs 1490.
 #![tactic(auto)]
 
-ghost use Rattle.std.specs.Prelude.{ℕ, ◌+◌, ◌<◌, ◌≤◌, min, ◌≡◌, ◌&&◌, ◌||◌, List, [], ◌∷◌, ◌++◌, eqb, length, get_or};
+ghost use Rattle.std.specs.Prelude.{ℕ, ◌+◌, ◌<◌, ◌≤◌, min, ◌≡◌, ◌&&◌, ◌||◌, List, [], ◌∷◌, ◌++◌, eqb, length, get_or, if◌then◌else◌};
 ghost use Rattle.std.proofs.Math.Option.{some};
-ghost use Rattle.lustre.specs.Name.{Name, if◌then◌else◌, ◌among◌};
+ghost use Rattle.lustre.specs.Name.{Name, ◌among◌};
 ghost use Rattle.lustre.specs.Types.{Ty};
 ghost use Rattle.lustre.specs.Expr.{contains_temporal, size};
 ghost use Rattle.lustre.specs.Project.{Port, Heading, port_names};

@@ -1,5 +1,6 @@
 -- Laws of numbers and words out of bytes. A number is read from its last byte on, the words from the first on.
 -- Assumes nothing.
+use Rattle.std.specs.Prelude.{if◌then◌else◌}
 use Prim.Native.Nat.{ℕ, zero, suc, ◌+◌, ◌*◌, ◌-◌, ◌^◌, ◌≤◌, ◌<◌}
 use native.Mathlib.Nat.{pow-suc, pow-le-pow_right}
 use native.Mathlib.Omega.{arith}
@@ -12,7 +13,6 @@ use borrow.Author.Tests.{leb-true, eqb-true, le-leb, lt-leb, eq-eqb, ne_eqb}
 use lib.Dec.{leb, eqb}
 use lib.ListN.{length, get_or, take, drop, set, length-set, length-drop, drop_of_length-le}
 use lib.Seq.{drop-cons, drop-length, drop-drop, set_at, append_snoc, length-take-le, take_all}
-use Rattle.lustre.specs.Name.{if◌then◌else◌}
 use Rattle.format.specs.File.{number_in, words_in, records_in, text_in, right, Model, parts, parse, sizes_of, kinds_of, text_of, decoded, words_after, Decoded}
 use Rattle.format.specs.declared.File.TheVariants.{Wrong, Parts}
 use Rattle.format.specs.declared.File.{File}

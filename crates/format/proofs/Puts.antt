@@ -1,5 +1,6 @@
 -- Laws of stores into a byte buffer and of digits. One store behind another stores both; what fits is the buffer's start.
 -- Assumes nothing.
+use Rattle.std.specs.Prelude.{if◌then◌else◌}
 use Prim.Native.Nat.{ℕ, zero, suc, ◌+◌, ◌/◌, ◌%◌, ◌^◌, ◌≤◌, ◌<◌}
 use native.Mathlib.Nat.{add-zero, add-suc, suc-add, div-lt_iff_lt-mul, pow-suc}
 use native.Mathlib.Omega.{arith}
@@ -11,7 +12,7 @@ use borrow.Author.Tests.{ltb-true, ltb-false, le-ltb, lt-ltb, ne_eqb, eq-eqb, lt
 use lib.Dec.{ltb}
 use lib.ListN.{length, set, take, drop, get_or, length-append, length-take}
 use lib.Seq.{sets, length-sets, set_out, take-suc, take_all, take_at, sets-eq, length-take-le}
-use Rattle.lustre.specs.Name.{Name, if◌then◌else◌}
+use Rattle.lustre.specs.Name.{Name}
 use Rattle.lustre.specs.declared.Line.{Line}
 use Rattle.lustre.specs.declared.Answer.{Answer}
 use Rattle.lustre.specs.Names.{name_at}

@@ -1,8 +1,7 @@
 -- What the functions of this crate leave in a lent byte buffer.
 -- Assumes nothing: these are definitions.
-use Rattle.std.specs.Prelude.{ℕ, ◌+◌, ◌-◌, ◌≡◌, List, [], ◌∷◌, ◌++◌, leb, length, take, drop}
+use Rattle.std.specs.Prelude.{ℕ, ◌+◌, ◌-◌, ◌≡◌, List, [], ◌∷◌, ◌++◌, leb, length, take, drop, if◌then◌else◌}
 use Rattle.std.proofs.lemmas.List.Edits.{sets}
-use Rattle.lustre.specs.Name.{if◌then◌else◌}
 
 -- the buffer o' is o with bs from position `at`, as far as there is room, and r is the position behind them
 pub record Put (bs o : List ℕ) (at r : ℕ) (o' : List ℕ) : Type 0 where

@@ -2,9 +2,8 @@
 -- low byte first; then the kind bytes and the words, 8 bytes each, low byte first, as two parallel arrays; then the text. A file of no bytes
 -- is read as sizes zero: request 2.1.
 -- Assumes nothing: these are definitions.
-use Rattle.std.specs.Prelude.{ℕ, zero, suc, ◌+◌, ◌*◌, ◌/◌, ◌%◌, ◌<◌, ◌≤◌, ◌^◌, ◌≡◌, Bool, ◌&&◌, List, [], ◌∷◌, ◌++◌, eqb, leb, length, take, drop}
+use Rattle.std.specs.Prelude.{ℕ, zero, suc, ◌+◌, ◌*◌, ◌/◌, ◌%◌, ◌<◌, ◌≤◌, ◌^◌, ◌≡◌, Bool, ◌&&◌, List, [], ◌∷◌, ◌++◌, eqb, leb, length, take, drop, if◌then◌else◌}
 use Rattle.std.proofs.Math.Option.{Option, none, some}
-use Rattle.lustre.specs.Name.{if◌then◌else◌}
 use Rattle.format.specs.declared.File.{File}
 use Rattle.format.specs.declared.File.TheVariants.{Wrong, Parts}
 

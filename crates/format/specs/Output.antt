@@ -2,12 +2,12 @@
 -- Every line of output ends with a newline byte. Stricter than the papers, which leave it free: a code above 9999 is printed with all its
 -- digits, and a place kind that is none of the five as a number.
 -- Assumes nothing: these are definitions.
-use Rattle.std.specs.Prelude.{ℕ, zero, suc, ◌+◌, ◌/◌, ◌%◌, List, [], ◌∷◌, ◌++◌, map, eqb, ltb, get_or, take}
+use Rattle.std.specs.Prelude.{ℕ, zero, suc, ◌+◌, ◌/◌, ◌%◌, List, [], ◌∷◌, ◌++◌, map, eqb, ltb, get_or, take, if◌then◌else◌}
 use Prim.Native.Char.{code as char_code}
 use Prim.Native.String.{String}
 use Prim.Native.String as Text
 use Rattle.std.proofs.Math.Option.{Option, none, some}
-use Rattle.lustre.specs.Name.{Name, if◌then◌else◌}
+use Rattle.lustre.specs.Name.{Name}
 use Rattle.lustre.specs.Names.{names_of, name_at}
 use Rattle.lustre.specs.Line.{Severity, Error, Warning, severity}
 use Rattle.lustre.specs.Answer.{refusal_of, first_of, second_of, no_value, answer, stored_report}

@@ -1,5 +1,6 @@
 -- Accepted input has what specs/Accepted.antt says: no refusal applies to it, so its sizes, names, words, records and levels are in order.
 -- Assumes nothing.
+use Rattle.std.specs.Prelude.{if◌then◌else◌}
 use Prim.Native.Nat.{ℕ, ◌≤◌}
 use native.Mathlib.Omega.{arith}
 use mathlib.Core.Path.{◌≡◌, refl, ap, sym, subst, ◌∙◌}
@@ -9,7 +10,6 @@ use mathlib.Core.Option.{Option, none, some}
 use lib.Dec.{eqb, leb}
 use lib.ListN.{length}
 use borrow.Author.Tests.{eqb-true, leb-true}
-use Rattle.lustre.specs.Name.{if◌then◌else◌}
 use Rattle.lustre.specs.Names.{names_of, name_at}
 use Rattle.lustre.specs.Records.{spell}
 use Rattle.lustre.specs.Grammar.{one, a_project, flat_part}

@@ -1,5 +1,6 @@
 -- The numbering of accepted names, with texts longer than any name past the last one, and what refusals 4 and 8 leave: words in range,
 -- which the numbering spells as the names do. Assumes nothing.
+use Rattle.std.specs.Prelude.{if◌then◌else◌}
 use Prim.Native.Nat.{ℕ, zero, suc, ◌+◌, ◌-◌, ◌≤◌, ◌<◌}
 use native.Mathlib.Omega.{arith}
 use mathlib.Core.Path.{◌≡◌, refl, ap₂}
@@ -9,7 +10,7 @@ use mathlib.Core.Option.{Option, none, some}
 use lib.Dec.{ltb, leb}
 use lib.ListN.{length, get_or, replicate, length-replicate}
 use borrow.Author.Tests.{leb-true, ltb-true, lt-ltb, le-ltb}
-use Rattle.lustre.specs.Name.{Name, if◌then◌else◌, ◌among◌}
+use Rattle.lustre.specs.Name.{Name, ◌among◌}
 use Rattle.lustre.specs.Names.{Piece, split, barred, above, is_name, bad_piece, bad_name, names_of, name_at, number_of}
 use Rattle.lustre.specs.Records.{Rec, WordClass, no_word, a_name, a_count, a_length, a_truth, any_word, a_byte, word_class, in_class, bad_record, spell, spell_as}
 use Rattle.demands.specs.Naming.{Named}

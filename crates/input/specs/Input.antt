@@ -1,8 +1,7 @@
 -- What the check of the input answers: the refusal that lustre's `lowest` gives first; else that the file is blank, or the number of names.
 -- Assumes nothing: these are definitions.
-use Rattle.std.specs.Prelude.{ℕ, ◌≡◌, false, List, length}
+use Rattle.std.specs.Prelude.{ℕ, ◌≡◌, false, List, length, if◌then◌else◌}
 use Rattle.std.proofs.Math.Option.{none}
-use Rattle.lustre.specs.Name.{if◌then◌else◌}
 use Rattle.lustre.specs.Names.{bad_name, names_of}
 use Rattle.lustre.specs.Answer.{bad_sizes, short_work, is_blank, lowest, unless_refused}
 use Rattle.input.specs.declared.Input.{Input}

@@ -1,5 +1,6 @@
 -- The laws of the line buffer: lines after lines, the count and the buffer in closed form, and what is said in sequence.
 -- Assumes nothing.
+use Rattle.std.specs.Prelude.{if◌then◌else◌}
 use Prim.Native.Nat.{ℕ, zero, suc, ◌+◌, ◌*◌, ◌-◌, ◌^◌, ◌≤◌, ◌<◌, min}
 use native.Mathlib.Omega.{arith}
 use native.Mathlib.Decide.{dec_lt}
@@ -12,7 +13,7 @@ use lib.Dec.{leb, ltb}
 use lib.ListN.{length, get_or, set, take, drop, length-take, length-drop}
 use lib.Seq.{sets, length-sets, sets-eq, get_or-append-add, get_or-take, get_or-drop, take-nil, drop-nil}
 use borrow.Author.Tests.{le-leb, lt-leb, lt-ltb, le-ltb}
-use Rattle.lustre.specs.Name.{Name, if◌then◌else◌}
+use Rattle.lustre.specs.Name.{Name}
 use Rattle.lustre.specs.Names.{number_of}
 use Rattle.lustre.specs.Line.{Note, Out, plain, named, bare, about, return, fail, add, require, try, ◌>>=◌, ◌>>◌}
 use Rattle.lustre.specs.Answer.{no_value, or_none, name_word, place_number, stored}

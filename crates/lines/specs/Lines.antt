@@ -1,11 +1,11 @@
 -- The line buffer: lines of the report, six words each, in a list of words, beside the number of lines so far, which stays at 2^64 - 1.
 -- Line number `first` goes to place 0. A line with no place in the buffer is counted and not stored.
 -- Assumes nothing: these are definitions.
-use Rattle.std.specs.Prelude.{ℕ, ◌+◌, ◌*◌, ◌-◌, ◌/◌, ◌^◌, min, ◌≡◌, ◌&&◌, List, [], ◌∷◌, map, leb, ltb, length, get_or, take, drop}
+use Rattle.std.specs.Prelude.{ℕ, ◌+◌, ◌*◌, ◌-◌, ◌/◌, ◌^◌, min, ◌≡◌, ◌&&◌, List, [], ◌∷◌, map, leb, ltb, length, get_or, take, drop, if◌then◌else◌}
 use Rattle.std.proofs.Math.Option
 use Rattle.std.proofs.Math.Option.{Option}
 use Rattle.std.proofs.lemmas.List.Edits.{sets}
-use Rattle.lustre.specs.Name.{Name, if◌then◌else◌}
+use Rattle.lustre.specs.Name.{Name}
 use Rattle.lustre.specs.Line.{Note, Out}
 use Rattle.lustre.specs.Answer.{or_none}
 use Rattle.lustre.specs.declared.Line.{Line}

@@ -1,5 +1,6 @@
 -- The walk over the numbers is the search of the equations that the words show, with the texts for the numbers.
 -- Assumes nothing.
+use Rattle.std.specs.Prelude.{if◌then◌else◌}
 use Prim.Native.Nat.{ℕ, ◌+◌, ◌<◌}
 use mathlib.Core.Path.{◌≡◌, sym, ◌∙◌, ap}
 use mathlib.Core.Logic.{⊎_elim}
@@ -8,7 +9,7 @@ use mathlib.Core.List.Memᴰ
 use mathlib.Core.List.{List, [], ◌∷◌, ◌++◌, map, Memᴰ}
 use lib.ListN.{length}
 use lib.Dec.{eqb}
-use Rattle.lustre.specs.Name.{Name, if◌then◌else◌, ◌is◌, ◌among◌, set_of}
+use Rattle.lustre.specs.Name.{Name, ◌is◌, ◌among◌, set_of}
 use Rattle.lustre.specs.Project.{Equation}
 use Rattle.lustre.specs.Deps.{reads, defined, read_in, read_by, successors}
 use Rattle.lustre.specs.Walk.{Search, walk, graph_names, search}

@@ -2,6 +2,7 @@
 -- does it gets a report without lines and edges. The project of any other file is read from the records lent; where there are none, it gets
 -- refusal 3 or 5.
 -- Assumes nothing.
+use Rattle.std.specs.Prelude.{if◌then◌else◌}
 use Prim.Native.Nat.{ℕ, ◌≤◌}
 use native.Mathlib.Omega.{arith}
 use mathlib.Core.Path.{◌≡◌, refl, ap, sym, ◌∙◌}
@@ -11,7 +12,6 @@ use mathlib.Core.Option.{none, some}
 use lib.Dec.{eqb}
 use lib.ListN.{length}
 use borrow.Author.Tests.{ne_eqb, le-leb}
-use Rattle.lustre.specs.Name.{if◌then◌else◌}
 use Rattle.lustre.specs.Names.{bad_name, names_of}
 use Rattle.lustre.specs.Records.{Rec, bad_record, spell}
 use Rattle.lustre.specs.Grammar.{flat_project}

@@ -1,6 +1,7 @@
 -- The types of integer literals, request 2.10: every bound of every width and sign under every sort of hint, and what E0095 leaves out
 -- of the lines around it. Two tables, each proved by one statement.
 -- Assumes nothing.
+use Rattle.std.specs.Prelude.{if◌then◌else◌}
 use Prim.Native.Nat.{ℕ}
 use Prim.Native.String.{String}
 use mathlib.Core.Path.{◌≡◌, refl}
@@ -10,7 +11,7 @@ use mathlib.Core.Option.{Option, none, some}
 use lib.IntN.{ℤ, pos, neg_ℤ}
 use mir.Syntax.{w64}
 use mir.Val.{of_z}
-use Rattle.lustre.specs.Name.{if◌then◌else◌, ◌is◌, lookup}
+use Rattle.lustre.specs.Name.{◌is◌, lookup}
 use Rattle.lustre.specs.Types.{Ty, Array, Tuple, Boolean, Int8, Int16, Int32, Int64, Uint8, Uint16, Uint32, Uint64, Float32, Float64, Character, unit_type}
 use Rattle.lustre.specs.Expr.{Expr, Map, Fold, Not, Neg, Eq, Lt, Add, unary, binary, ite, pre, arrow, index, tuple, array, cast, []ᵉ, ◌∷ᵉ◌, []ⁱ}
 use Rattle.lustre.specs.Project.{Function}

@@ -1,12 +1,13 @@
 -- Tuples that know their number, request 2.8: models and what the definition says of them, proved by computation. Three tables: the numbers
 -- of names and members (E0042), the types by position (E0043), and every place where two types meet.
 -- Assumes nothing.
+use Rattle.std.specs.Prelude.{if◌then◌else◌}
 use Prim.Native.String.{String}
 use mathlib.Core.Path.{◌≡◌, refl}
 use mathlib.Core.Bool.{true}
 use mathlib.Core.List.{List, [], ◌∷◌, ◌++◌, map}
 use mathlib.Core.Option.{none, some}
-use Rattle.lustre.specs.Name.{Name, if◌then◌else◌, ◌among◌}
+use Rattle.lustre.specs.Name.{Name, ◌among◌}
 use Rattle.lustre.specs.Types.{Array, Boolean, Int32}
 use Rattle.lustre.specs.Expr.{Expr, Map, Eq, Lt, binary, ite, pre, arrow, index, array, tuple, []ᵉ, ◌∷ᵉ◌, []ⁱ}
 use Rattle.lustre.specs.Project.{Decl, Node, Project, Function, Operator, Imported, NodeKind, Port}

@@ -1,8 +1,8 @@
 -- The answer of a call and what the lent buffers hold after it: document 01, 'What is lent', and requests 2.1 and 2.2.
 -- Assumes nothing: these are definitions.
-use Rattle.std.specs.Prelude.{ℕ, ◌-◌, min, Bool, true, false, ◌&&◌, List, [], ◌∷◌, ◌++◌, map, eqb, ltb, leb, length, get_or, take, drop, replicate}
+use Rattle.std.specs.Prelude.{ℕ, ◌-◌, min, Bool, true, false, ◌&&◌, List, [], ◌∷◌, ◌++◌, map, eqb, ltb, leb, length, get_or, take, drop, replicate, if◌then◌else◌}
 use Rattle.std.proofs.Math.Option.{Option, none, some}
-use Rattle.lustre.specs.Name.{Name, if◌then◌else◌}
+use Rattle.lustre.specs.Name.{Name}
 use Rattle.lustre.specs.Names.{bad_name, names_of, name_at, number_of}
 use Rattle.lustre.specs.Records.{Rec, word_class, is_known, bad_record, spell}
 use Rattle.lustre.specs.Grammar.{Got, got, stuck, one, a_project, read_project, whole, flat_project}

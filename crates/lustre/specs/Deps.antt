@@ -1,8 +1,8 @@
 -- The names that an expression reads in the same instant, and the graph of a node's equations: `collect_immediate_deps`, lib.rs 1534, and
 -- since request 2.6 the body of an arrow too, which the Rust leaves out.
 -- Assumes nothing: these are definitions.
-use Rattle.std.specs.Prelude.{List, [], ◌∷◌, ◌++◌, map}
-use Rattle.lustre.specs.Name.{Name, if◌then◌else◌, ◌among◌, set_of}
+use Rattle.std.specs.Prelude.{List, [], ◌∷◌, ◌++◌, map, if◌then◌else◌}
+use Rattle.lustre.specs.Name.{Name, ◌among◌, set_of}
 use Rattle.lustre.specs.Expr.{Expr, Exprs, Inits, const, var, unary, binary, ite, pre, arrow, call, field, index, tuple, array, struct, cast, when, merge, iterate, iterate_from, []ᵉ, ◌∷ᵉ◌, []ⁱ, init}
 use Rattle.lustre.specs.Project.{Equation}
 

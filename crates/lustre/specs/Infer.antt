@@ -1,9 +1,9 @@
 -- `infer_expr_type`, lib.rs 710, and `infer_iterator_type`, lib.rs 1233. Each construct has a rule: a function of the typings of its
 -- parts. A typing is what waits for a hint. `infer` at the end hands each rule its parts' typings, with their steps.
 -- Assumes nothing: these are definitions.
-use Rattle.std.specs.Prelude.{ℕ, suc, ◌+◌, Bool, true, ◌&&◌, List, [], ◌∷◌, map, eqb, leb, length, neg_ℤ}
+use Rattle.std.specs.Prelude.{ℕ, suc, ◌+◌, Bool, true, ◌&&◌, List, [], ◌∷◌, map, eqb, leb, length, neg_ℤ, if◌then◌else◌}
 use Rattle.std.proofs.Math.Option.{Option, none, some}
-use Rattle.lustre.specs.Name.{Name, if◌then◌else◌, ◌among◌, find}
+use Rattle.lustre.specs.Name.{Name, ◌among◌, find}
 use Rattle.lustre.specs.Types.{Ty, basic, Array, Named, Tuple, Boolean, Int32, unit_type, same_type, is_integer, is_numeric, is_bool, levels}
 use Rattle.lustre.specs.Expr.{Expr, Exprs, Inits, UnaryOp, Not, Neg, IterKind, Map, Fold, OpClass, Logic, Equality, Order, Arithmetic, Bitwise, op_class, Form, integer, temporal, iterator, calling, other, form, size}
 use Rattle.lustre.specs.Expr.{const, var, unary, binary, ite, pre, arrow, call, field, index, tuple, array, struct, cast, when, merge, iterate, iterate_from, []ᵉ, ◌∷ᵉ◌, []ⁱ, init}

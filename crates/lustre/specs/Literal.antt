@@ -1,10 +1,9 @@
 -- The types of literals: `fits_in_integer` by sign and width, lib.rs 696, `integer_literal_type`, lib.rs 1477, and lib.rs 721 to 729.
 -- Assumes nothing: these are definitions.
-use Rattle.std.specs.Prelude.{ℕ, ◌-◌, ◌^◌, Bool, false, ltb, ℤ, pos, negsuc}
+use Rattle.std.specs.Prelude.{ℕ, ◌-◌, ◌^◌, Bool, false, ltb, ℤ, pos, negsuc, if◌then◌else◌}
 use Rattle.std.proofs.Math.Option.{Option, none, some}
 use Rattle.std.specs.Int.{w64}
 use Rattle.std.proofs.Common.{to_z}
-use Rattle.lustre.specs.Name.{if◌then◌else◌}
 use Rattle.lustre.specs.Types.{Ty, basic, Array, Named, Tuple, Boolean, Int32, Float64, Character, Range, signed, unsigned, range_of, is_float}
 use Rattle.lustre.specs.Expr.{Literal, bool, int, float, char}
 use Rattle.lustre.specs.Resolve.{Aliases, resolve}

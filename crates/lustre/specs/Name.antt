@@ -1,14 +1,9 @@
 -- Names are texts, lists of bytes, compared byte by byte as the Rust compares strings. Tables are lists of pairs in order of declaration.
 -- Assumes nothing: these are definitions.
 use Prim.Native.Nat.{ℕ, compare, Ordering}
-use Rattle.std.specs.Prelude.{Bool, true, false, List, [], ◌∷◌}
+use Rattle.std.specs.Prelude.{Bool, true, false, List, [], ◌∷◌, if◌then◌else◌}
 use Rattle.std.proofs.Math.Option.{Option, none, some}
 use Rattle.std.proofs.Math.Dec.{compare_is_eq}
-
-infix 1 if◌then◌else◌
-abbrev pub if◌then◌else◌ {ℓ} : {A : Type ℓ} → Bool → A → A → A
-if true then a else b = a
-if false then a else b = b
 
 abbrev pub Name : Type 0
 Name = List ℕ

@@ -1,8 +1,8 @@
 -- `check_node`, lib.rs 331.
 -- Assumes nothing: these are definitions.
-use Rattle.std.specs.Prelude.{ℕ, suc, false, ◌&&◌, List, [], ◌∷◌, ◌++◌, map, eqb, length}
+use Rattle.std.specs.Prelude.{ℕ, suc, false, ◌&&◌, List, [], ◌∷◌, ◌++◌, map, eqb, length, if◌then◌else◌}
 use Rattle.std.proofs.Math.Option.{Option, none, some}
-use Rattle.lustre.specs.Name.{Name, if◌then◌else◌, ◌among◌, lookup}
+use Rattle.lustre.specs.Name.{Name, ◌among◌, lookup}
 use Rattle.lustre.specs.Types.{Ty, members}
 use Rattle.lustre.specs.Expr.{Form, form, integer, temporal, iterator, calling, other, contains_temporal}
 use Rattle.lustre.specs.Project.{Port, NodeKind, Function, Operator, Imported, Equation, Node, Heading, is_function, port_names}

@@ -1,8 +1,8 @@
 -- `check_project`, lib.rs 134, and `check_constants`, lib.rs 262: the report of a project, and the number of edges followed.
 -- Assumes nothing: these are definitions.
-use Rattle.std.specs.Prelude.{ℕ, suc, ◌+◌, true, List, [], ◌∷◌, ◌++◌, map}
+use Rattle.std.specs.Prelude.{ℕ, suc, ◌+◌, true, List, [], ◌∷◌, ◌++◌, map, if◌then◌else◌}
 use Rattle.std.proofs.Math.Option.{Option, none, some}
-use Rattle.lustre.specs.Name.{Name, if◌then◌else◌, ◌among◌, lookup, set_of}
+use Rattle.lustre.specs.Name.{Name, ◌among◌, lookup, set_of}
 use Rattle.lustre.specs.Types.{Ty, Named}
 use Rattle.lustre.specs.Expr.{contains_temporal}
 use Rattle.lustre.specs.Project.{Decl, Alias, Record, Enum, Constant, Node, Heading, PackageOf, Project, Skeleton, decl_name, skeleton, all_types, all_constants, all_nodes}

@@ -2,9 +2,9 @@
 -- values that no record's type describes: a tuple of so many members (several outputs, or a tuple's items), and no output (35). The
 -- Rust spells them as the named types `__tuple__` and `__unit__`, which are barred as names, so no declaration is ever found for them.
 -- Assumes nothing: these are definitions.
-use Rattle.std.specs.Prelude.{ℕ, ◌+◌, Bool, false, ◌&&◌, eqb, leb}
+use Rattle.std.specs.Prelude.{ℕ, ◌+◌, Bool, false, ◌&&◌, eqb, leb, if◌then◌else◌}
 use Rattle.std.proofs.Math.Option.{Option, none, some}
-use Rattle.lustre.specs.Name.{Name, if◌then◌else◌, ◌is◌}
+use Rattle.lustre.specs.Name.{Name, ◌is◌}
 
 pub data Ty : Type 0 where
   basic : ℕ → Ty

@@ -1,11 +1,12 @@
 -- The lines of a node behind those of its equations: what its search is shown, and the lines one after another.
 -- Assumes nothing.
+use Rattle.std.specs.Prelude.{if◌then◌else◌}
 use Prim.Native.Nat.{ℕ, ◌≤◌, ◌<◌}
 use native.Mathlib.Omega.{arith}
 use mathlib.Core.Path.{◌≡◌, refl, sym, ◌∙◌}
 use mathlib.Core.Bool.{Bool, true, false, ◌||◌}
 use mathlib.Core.List.{List, [], ◌∷◌, ◌++◌}
-use Rattle.lustre.specs.Name.{Name, if◌then◌else◌, ◌is◌, ◌among◌, mem}
+use Rattle.lustre.specs.Name.{Name, ◌is◌, ◌among◌, mem}
 use Rattle.lustre.specs.Types.{Ty}
 use Rattle.lustre.specs.Project.{Port, Heading, NodeKind, Imported, Equation, Node, port_names}
 use Rattle.lustre.specs.Deps.{reads, defined, read_in, read_by}

@@ -1,5 +1,6 @@
 -- The equations of a node one after another: their lines, the names assigned and the edges of the graph.
 -- Assumes nothing.
+use Rattle.std.specs.Prelude.{if◌then◌else◌}
 use Prim.Native.Nat.{ℕ, suc, ◌+◌, ◌<◌}
 use native.Mathlib.Omega.{arith}
 use mathlib.Core.Path.{◌≡◌, refl, sym, ◌∙◌, ap}
@@ -7,7 +8,7 @@ use mathlib.Core.Bool.{Bool, true, false, ◌&&◌, ◌||◌}
 use mathlib.Core.List.{List, [], ◌∷◌, ◌++◌, map, map-append}
 use mathlib.Core.Option.{some}
 use lib.ListN.{length, get_or}
-use Rattle.lustre.specs.Name.{Name, if◌then◌else◌, ◌among◌, mem}
+use Rattle.lustre.specs.Name.{Name, ◌among◌, mem}
 use Rattle.lustre.specs.Project.{Equation, Node, skeleton, port_names, is_function}
 use Rattle.lustre.specs.Line.{Note, Line, at_node}
 use Rattle.lustre.specs.Resolve.{Scope, context}

@@ -1,5 +1,6 @@
 -- What the loops over a list of ports or of names keep: what is left of the list, and that what is done for the rest is done for the whole.
 -- Assumes nothing.
+use Rattle.std.specs.Prelude.{if◌then◌else◌}
 use Prim.Native.Nat.{ℕ, ◌+◌, ◌<◌}
 use native.Mathlib.Omega.{arith}
 use mathlib.Core.Path.{◌≡◌, refl, sym, ap, ◌∙◌}
@@ -8,7 +9,7 @@ use mathlib.Core.Bool.{Bool, true, false, not, ◌||◌}
 use mathlib.Core.List.{List, [], ◌∷◌, ◌++◌, append_assoc, append-nil}
 use lib.Dec.{eqb}
 use lib.ListN.{length, get_or, set as with}
-use Rattle.lustre.specs.Name.{Name, if◌then◌else◌, ◌is◌, ◌among◌}
+use Rattle.lustre.specs.Name.{Name, ◌is◌, ◌among◌}
 use Rattle.lustre.specs.Types.{Ty, levels}
 use Rattle.lustre.specs.Project.{Port, Heading, port_names}
 use Rattle.lustre.specs.Line.{about}

@@ -2,8 +2,8 @@
 // own lists cost; and the lines on names that repeat or are wanting: lib.rs 353 to 376, 475 to 492 and 510 to 520.
 #![tactic(auto)]
 
-ghost use Rattle.std.specs.Prelude.{ℕ, ◌+◌, ◌<◌, ◌≤◌, ◌≡◌, List, [], ◌∷◌, ◌++◌, eqb, length, get_or};
-ghost use Rattle.lustre.specs.Name.{Name, if◌then◌else◌, ◌among◌};
+ghost use Rattle.std.specs.Prelude.{ℕ, ◌+◌, ◌<◌, ◌≤◌, ◌≡◌, List, [], ◌∷◌, ◌++◌, eqb, length, get_or, if◌then◌else◌};
+ghost use Rattle.lustre.specs.Name.{Name, ◌among◌};
 ghost use Rattle.lustre.specs.Types.{Ty};
 ghost use Rattle.lustre.specs.Project.{Port, Heading, port_names};
 ghost use Rattle.lustre.specs.Node.{absent};

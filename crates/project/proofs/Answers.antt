@@ -1,5 +1,6 @@
 -- From the check of the input and the judging of accepted input to the whole call.
 -- Assumes nothing.
+use Rattle.std.specs.Prelude.{if◌then◌else◌}
 use Prim.Native.Nat.{ℕ, ◌<◌, ◌≤◌, min}
 use mathlib.Core.Path.{◌≡◌, refl, sym, ap, subst, ◌∙◌}
 use mathlib.Core.Bool.{Bool, true, false}
@@ -10,7 +11,7 @@ use lib.ListN.{length, get_or, replicate}
 use lib.Seq.{take-nil}
 use native.Mathlib.Omega.{arith}
 use borrow.Author.Tests.{ltb-true, ltb-false}
-use Rattle.lustre.specs.Name.{if◌then◌else◌, mem}
+use Rattle.lustre.specs.Name.{mem}
 use Rattle.lustre.specs.Names.{names_of}
 use Rattle.lustre.specs.Records.{word_classes, class_in, word_class, in_class}
 use Rattle.lustre.specs.Project.{Project}

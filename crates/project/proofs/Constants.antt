@@ -1,12 +1,13 @@
 -- The pass over the constants, step by step: lib.rs 262.
 -- Assumes nothing.
+use Rattle.std.specs.Prelude.{if◌then◌else◌}
 use Prim.Native.Nat.{ℕ, suc, ◌+◌, ◌<◌, ◌≤◌}
 use native.Mathlib.Numerals.{add-one}
 use mathlib.Core.Path.{◌≡◌}
 use mathlib.Core.List.{List, [], ◌∷◌, map}
 use mathlib.Core.Option.{none}
 use lib.ListN.{length, get_or, replicate}
-use Rattle.lustre.specs.Name.{Name, if◌then◌else◌, ◌among◌}
+use Rattle.lustre.specs.Name.{Name, ◌among◌}
 use Rattle.lustre.specs.Project.{Constant, skeleton, all_constants}
 use Rattle.lustre.specs.Line.{Note, Line, at_constant, about}
 use Rattle.lustre.specs.Answer.{place_number, or_none}

@@ -1,6 +1,7 @@
 -- Demands 2 and 3 of the function `check`, from the theorems about the definition: the lines below the count in the buffer after a call that
 -- gets a report are the report's.
 -- Assumes nothing.
+use Rattle.std.specs.Prelude.{if◌then◌else◌}
 use Prim.Native.Nat.{ℕ, zero, suc, ◌+◌, ◌*◌, ◌≤◌, min}
 use native.Mathlib.Omega.{arith}
 use mathlib.Core.Path.{◌≡◌, refl, sym, ap, subst, ◌∙◌}
@@ -11,7 +12,7 @@ use lib.Dec.{eqb, leb}
 use lib.ListN.{length, drop, length-map}
 use lib.Seq.{take_all, get_or-drop}
 use borrow.Author.Tests.{eq-eqb}
-use Rattle.lustre.specs.Name.{Name, if◌then◌else◌}
+use Rattle.lustre.specs.Name.{Name}
 use Rattle.lustre.specs.Names.{names_of}
 use Rattle.lustre.specs.Records.{Rec}
 use Rattle.lustre.specs.Project.{Project, NodeKind, Function, Operator, Equation}

@@ -1,9 +1,8 @@
 -- The grammar by positions, in the grain of the code: a walk over the records with a list of the parts that are still wanted, each a
 -- class at a level, that keeps the first record too deep. What the contracts of this crate cite.
 -- Assumes nothing: these are definitions.
-use Rattle.std.specs.Prelude.{ℕ, ◌+◌, ◌-◌, ◌≤◌, ◌≡◌, List, [], ◌∷◌, ◌++◌, map, eqb, ltb, length, drop, get_or}
+use Rattle.std.specs.Prelude.{ℕ, ◌+◌, ◌-◌, ◌≤◌, ◌≡◌, List, [], ◌∷◌, ◌++◌, map, eqb, ltb, length, drop, get_or, if◌then◌else◌}
 use Rattle.std.proofs.Math.Option.{Option, none, some}
-use Rattle.lustre.specs.Name.{if◌then◌else◌}
 use Rattle.lustre.specs.Records.{Rec, spell}
 use Rattle.lustre.specs.Grammar.{Sort, Class, one, list, Shape, follow, Entry, entries, entry}
 use Rattle.lustre.specs.Grammar.{a_project, a_package, a_declaration, a_constant, a_node, a_port, a_name, an_equation, a_type, an_expression, a_field_value}

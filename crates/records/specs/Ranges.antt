@@ -1,8 +1,7 @@
 -- Words in range, by a reader: how the record that it stands at is judged, and the first out of range from there on.
 -- Assumes nothing: these are definitions.
-use Rattle.std.specs.Prelude.{ℕ, Bool, ltb, get_or, drop}
+use Rattle.std.specs.Prelude.{ℕ, Bool, ltb, get_or, drop, if◌then◌else◌}
 use Rattle.std.proofs.Math.Option.{Option, none, some}
-use Rattle.lustre.specs.Name.{if◌then◌else◌}
 use Rattle.lustre.specs.Records.{word_class, in_class, bad_record}
 use Rattle.reader.specs.declared.Reader.{Reader}
 

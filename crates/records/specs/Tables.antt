@@ -1,8 +1,8 @@
 -- The code's tables of sorts, operands and word classes, and what its functions ask and answer.
 -- Assumes nothing: these are definitions.
-use Rattle.std.specs.Prelude.{ℕ, ◌+◌, ◌≤◌, ◌<◌, ◌≡◌, List, [], ◌∷◌, ◌++◌, map, eqb, length, drop, get_or, replicate}
+use Rattle.std.specs.Prelude.{ℕ, ◌+◌, ◌≤◌, ◌<◌, ◌≡◌, List, [], ◌∷◌, ◌++◌, map, eqb, length, drop, get_or, replicate, if◌then◌else◌}
 use Rattle.std.proofs.Math.Option.{Option, none, some}
-use Rattle.lustre.specs.Name.{Name, if◌then◌else◌}
+use Rattle.lustre.specs.Name.{Name}
 use Rattle.lustre.specs.Records.{WordClass, no_word, a_name, a_count, a_length, a_truth, any_word, a_byte, spell}
 use Rattle.lustre.specs.Levels.{inner_of}
 use Rattle.lustre.specs.Answer.{no_project, too_deep_at}

@@ -1,5 +1,6 @@
 -- Laws of the report on a file: what is printed and the status depend on the report alone, where the lines that are lent hold it.
 -- Assumes nothing.
+use Rattle.std.specs.Prelude.{if◌then◌else◌}
 use Prim.Native.Nat.{ℕ, ◌≤◌, min}
 use native.Mathlib.Omega.{arith}
 use mathlib.Core.Path.{◌≡◌, refl, sym, subst, ap, ◌∙◌}
@@ -10,7 +11,6 @@ use borrow.Author.Tests.{leb-true, eq-eqb, ne_eqb, eqb-true, eqb-false}
 use lib.Dec.{eqb, leb}
 use lib.ListN.{length, take, drop, replicate, length-map, length-replicate}
 use lib.Seq.{take_all, take-length, take-take, take-append_seam}
-use Rattle.lustre.specs.Name.{if◌then◌else◌}
 use Rattle.lustre.specs.Names.{bad_name, names_of}
 use Rattle.lustre.specs.Project.{Project}
 use Rattle.lustre.specs.Report.{report, followed}

@@ -1,5 +1,6 @@
 -- Laws of how much is rendered, and of the status.
 -- Assumes nothing.
+use Rattle.std.specs.Prelude.{if◌then◌else◌}
 use Prim.Native.Nat.{ℕ, ◌-◌, ◌≤◌}
 use native.Mathlib.Omega.{arith}
 use mathlib.Core.Path.{◌≡◌, refl, sym, ap, ◌∙◌}
@@ -8,7 +9,6 @@ use mathlib.Core.List.{List, [], ◌∷◌, ◌++◌}
 use borrow.Author.Tests.{leb-true, eq-eqb, ne_eqb}
 use lib.Dec.{leb}
 use lib.ListN.{length, take, length-append}
-use Rattle.lustre.specs.Name.{if◌then◌else◌}
 use Rattle.lustre.specs.Answer.{refusal_of, first_of, second_of}
 use Rattle.lustre.specs.declared.Line.{Line}
 use Rattle.lustre.specs.declared.Answer.{Answer}

@@ -1,9 +1,8 @@
 -- The response to a file: document 01, program `check`. The call on what the file holds, the bytes that are printed, and the status of a
 -- run, 0 for a report without an error, 1 for one with an error, 2 for a refusal.
 -- Assumes nothing: these are definitions.
-use Rattle.std.specs.Prelude.{ℕ, ◌≤◌, ◌≡◌, Bool, true, false, ◌||◌, List, [], ◌∷◌, eqb, length, take, replicate}
+use Rattle.std.specs.Prelude.{ℕ, ◌≤◌, ◌≡◌, Bool, true, false, ◌||◌, List, [], ◌∷◌, eqb, length, take, replicate, if◌then◌else◌}
 use Rattle.std.proofs.Math.Option.{Option, none, some}
-use Rattle.lustre.specs.Name.{if◌then◌else◌}
 use Rattle.lustre.specs.Line.{Severity, Error, Warning, severity}
 use Rattle.lustre.specs.Answer.{refusal_of, answer, stored_report}
 use Rattle.lustre.specs.declared.Line.{Line}

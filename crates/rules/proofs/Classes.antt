@@ -1,12 +1,12 @@
 -- The classes of operators by number.
 -- Assumes nothing.
+use Rattle.std.specs.Prelude.{if◌then◌else◌}
 use Prim.Native.Nat.{ℕ, ◌+◌, ◌≤◌, ◌<◌}
 use native.Mathlib.Omega.{arith}
 use mathlib.Core.Path.{◌≡◌, refl, sym}
 use mathlib.Core.Bool.{false, ◌&&◌}
 use mathlib.Core.Option.{Option, none}
 use lib.Dec.{leb}
-use Rattle.lustre.specs.Name.{if◌then◌else◌}
 use Rattle.lustre.specs.Types.{Ty, Boolean, same_type, is_bool, is_integer, is_numeric}
 use Rattle.lustre.specs.Expr.{BinOp, OpClass, Logic, Equality, Order, Arithmetic, Bitwise, op_class}
 use Rattle.lustre.specs.Expr.{And, Or, Xor, Implies, Eq, Neq, Lt, Le, Gt, Ge, Add, Sub, Mul, Div, Mod, BitAnd, BitOr, BitXor, Shl, Shr}

@@ -1,5 +1,6 @@
 -- Lists of ports one by one: what the loops over them keep, and what stands in a list of known length.
 -- Assumes nothing.
+use Rattle.std.specs.Prelude.{if◌then◌else◌}
 use Prim.Native.Nat.{ℕ, ◌+◌, ◌<◌}
 use native.Mathlib.Omega.{arith}
 use mathlib.Core.Path.{◌≡◌, refl, sym, ap, ◌∙◌}
@@ -7,7 +8,7 @@ use mathlib.Core.Bool.{Bool, true, false}
 use mathlib.Core.List.{List, [], ◌∷◌}
 use mathlib.Core.Option.{none, some}
 use lib.ListN.{length, get_or}
-use Rattle.lustre.specs.Name.{Name, if◌then◌else◌, ◌is◌, find}
+use Rattle.lustre.specs.Name.{Name, ◌is◌, find}
 use Rattle.lustre.specs.Types.{Ty, basic, Array, Named, Tuple, levels, unit_type}
 use Rattle.lustre.specs.Project.{Port, Heading, NodeKind, Function, Operator, Imported, is_operator}
 use Rattle.lustre.specs.Grammar.{node_kind}

@@ -1,10 +1,11 @@
 -- Struct values: the name that is meant, and the fields that are missing.
 -- Assumes nothing.
+use Rattle.std.specs.Prelude.{if◌then◌else◌}
 use Prim.Native.Nat.{ℕ, ◌+◌}
 use mathlib.Core.Path.{◌≡◌, refl, ap, ◌∙◌}
 use mathlib.Core.List.{List, [], ◌∷◌, ◌++◌}
 use mathlib.Core.Bool.{Bool, true, false}
-use Rattle.lustre.specs.Name.{Name, if◌then◌else◌, ◌among◌}
+use Rattle.lustre.specs.Name.{Name, ◌among◌}
 use lib.ListN.{get_or}
 use Rattle.lustre.specs.Types.{levels}
 use Rattle.lustre.specs.Project.{Port}

@@ -1,7 +1,7 @@
 // Iterators, `infer_iterator_type`, lib.rs 1233. An iterator types its arrays once, in order, and keeps of them what its later tests ask.
-ghost use Rattle.std.specs.Prelude.{◌≡◌, false, true, List, [], ◌∷◌, ◌++◌, ℕ, ◌+◌, ◌<◌, ◌≤◌, eqb, length, drop};
+ghost use Rattle.std.specs.Prelude.{◌≡◌, false, true, List, [], ◌∷◌, ◌++◌, ℕ, ◌+◌, ◌<◌, ◌≤◌, eqb, length, drop, if◌then◌else◌};
 ghost use Rattle.std.proofs.Math.Option.{Option};
-ghost use Rattle.lustre.specs.Name.{Name, if◌then◌else◌};
+ghost use Rattle.lustre.specs.Name.{Name};
 ghost use Rattle.lustre.specs.Types.{Ty, Array};
 ghost use Rattle.lustre.specs.Expr.{Map};
 ghost use Rattle.lustre.specs.Project.{Port};

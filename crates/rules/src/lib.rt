@@ -10,9 +10,8 @@ pub mod iterators;
 pub mod ports;
 pub mod structs;
 
-ghost use Rattle.std.specs.Prelude.{◌≡◌, false, [], ◌∷◌, ◌+◌, ◌-◌, ◌<◌, ◌≤◌, max, eqb, length, get_or};
+ghost use Rattle.std.specs.Prelude.{◌≡◌, false, [], ◌∷◌, ◌+◌, ◌-◌, ◌<◌, ◌≤◌, max, eqb, length, get_or, if◌then◌else◌};
 ghost use Rattle.std.proofs.Math.Option.{some};
-ghost use Rattle.lustre.specs.Name.{if◌then◌else◌};
 ghost use Rattle.lustre.specs.Types.{within, is_bool, is_integer};
 ghost use Rattle.lustre.specs.Expr.{UnaryOp, BinOp, OpClass, Equality, op_class};
 ghost use Rattle.lustre.specs.Grammar.{unary_kind, op_kind};

@@ -1,7 +1,7 @@
 // Lists of ports in the records: a node's inputs and outputs, and a record's fields. A list record, kind 3, has the number of ports; a
 // port is a record with its name and a type behind it. And what a call asks of its callee before its arguments.
-ghost use Rattle.std.specs.Prelude.{◌≡◌, ◌&&◌, [], ◌∷◌, ℕ, ◌+◌, ◌<◌};
-ghost use Rattle.lustre.specs.Name.{Name, if◌then◌else◌};
+ghost use Rattle.std.specs.Prelude.{◌≡◌, ◌&&◌, [], ◌∷◌, ℕ, ◌+◌, ◌<◌, if◌then◌else◌};
+ghost use Rattle.lustre.specs.Name.{Name};
 ghost use Rattle.lustre.specs.Types.{levels};
 ghost use Rattle.lustre.specs.Project.{NodeKind, is_operator};
 ghost use Rattle.lustre.specs.Grammar.{node_kind};

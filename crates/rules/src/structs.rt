@@ -1,6 +1,6 @@
 // Struct values, lib.rs 1134: the record that is meant, the names given, as bits by name number, and the fields that are not given.
-ghost use Rattle.std.specs.Prelude.{◌≡◌, List, [], ◌∷◌, ◌++◌, ℕ, ◌<◌};
-ghost use Rattle.lustre.specs.Name.{Name, if◌then◌else◌};
+ghost use Rattle.std.specs.Prelude.{◌≡◌, List, [], ◌∷◌, ◌++◌, ℕ, ◌<◌, if◌then◌else◌};
+ghost use Rattle.lustre.specs.Name.{Name};
 ghost use Rattle.lustre.specs.Line.{named};
 ghost use Rattle.lustre.specs.Infer.{struct_name, missing as missing_of};
 ghost use Rattle.lines.specs.Lines.{Noted};

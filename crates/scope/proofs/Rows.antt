@@ -1,5 +1,6 @@
 -- The tables step by step: none declared, one name more, and ports forgotten.
 -- Assumes nothing.
+use Rattle.std.specs.Prelude.{if◌then◌else◌}
 use Prim.Native.Nat.{ℕ, suc, ◌+◌, ◌≤◌, ◌<◌}
 use native.Mathlib.Omega.{arith}
 use mathlib.Core.Path.{◌≡◌, refl, sym, ◌∙◌, ap, subst}
@@ -11,7 +12,7 @@ use lib.Dec.{eqb}
 use lib.ListN.{length, get_or, set, replicate, length-set, length-replicate, get_or-replicate}
 use lib.Seq.{get_or-set_same, get_or-set_other}
 use borrow.Author.Tests.{ne_eqb, eqb-true}
-use Rattle.lustre.specs.Name.{Name, if◌then◌else◌, ◌is◌, ◌among◌, mem, lookup, ◌or◌}
+use Rattle.lustre.specs.Name.{Name, ◌is◌, ◌among◌, mem, lookup, ◌or◌}
 use Rattle.lustre.specs.Types.{Ty}
 use Rattle.lustre.specs.Project.{Port, Heading, port_names}
 use Rattle.demands.proofs.Sets.{split, mustnt, mem_eq, mem_ne}

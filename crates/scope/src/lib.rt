@@ -3,8 +3,8 @@
 // project; here are the steps that make them.
 #![tactic(auto)]
 
-ghost use Rattle.std.specs.Prelude.{ℕ, ◌+◌, ◌<◌, ◌≤◌, ◌≡◌, [], ◌∷◌, eqb, length, get_or, set as with};
-ghost use Rattle.lustre.specs.Name.{Name, if◌then◌else◌};
+ghost use Rattle.std.specs.Prelude.{ℕ, ◌+◌, ◌<◌, ◌≤◌, ◌≡◌, [], ◌∷◌, eqb, length, get_or, set as with, if◌then◌else◌};
+ghost use Rattle.lustre.specs.Name.{Name};
 ghost use Rattle.lustre.specs.Line.{about};
 ghost use Rattle.lines.specs.Lines.{Noted};
 ghost use Rattle.loops.specs.Rows.{has, Connected};

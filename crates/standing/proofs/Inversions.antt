@@ -1,5 +1,6 @@
 -- What stands where a record of a kind is: the form of the expression, type or declaration, and where its parts stand.
 -- Assumes nothing.
+use Rattle.std.specs.Prelude.{if◌then◌else◌}
 use Prim.Native.Nat.{ℕ, zero, suc, ◌+◌, ◌-◌, ◌≤◌, ◌<◌}
 use native.Mathlib.Omega.{arith}
 use mathlib.Core.Path.{◌≡◌, refl, ap, sym, subst, ◌∙◌}
@@ -8,7 +9,7 @@ use mathlib.Core.List.{List, [], ◌∷◌}
 use lib.Dec.{eqb, leb, ltb}
 use lib.ListN.{length, get_or}
 use borrow.Author.Tests.{ltb-false, eqb-true, eq-eqb, le-ltb, le-leb, lt-leb, ne_eqb}
-use Rattle.lustre.specs.Name.{Name, if◌then◌else◌, mem}
+use Rattle.lustre.specs.Name.{Name, mem}
 use Rattle.lustre.specs.Types.{Ty, basic, Array, Named, Tuple, levels}
 use Rattle.lustre.specs.Expr.{Expr, Exprs, Inits, Literal, UnaryOp, BinOp, IterKind, OpClass, op_class, size}
 use Rattle.lustre.specs.Expr.{const, var, unary, binary, ite, pre, arrow, call, field, index, tuple, array, struct, cast, when, merge, iterate, iterate_from}
@@ -33,6 +34,12 @@ row P d {n} (◌&◌ {xs = xs} p r) (suc i) h = let q : n + 1 + i ≡ n + suc i 
 -- the operator of a kind, 47 to 66, and its class
 unfoldable pub op_at : ℕ → BinOp
 op_at k = get_or operators (k - 47) Shr
+
+-- the choice of two facts by a test
+infix 1 on◌so◌else◌
+abbrev on◌so◌else◌ : Bool → Type 0 → Type 0 → Type 0
+on true so a else b = a
+on false so a else b = b
 
 abbrev class_at : ℕ → OpClass
 class_at k = if leb k 50 then Logic else if leb k 52 then Equality else if leb k 56 then Order else if leb k 61 then Arithmetic else Bitwise
@@ -75,13 +82,13 @@ module _ (k : ℕ) where
 
 -- P where k is from low to high, and nothing elsewhere
 abbrev Bounded : ℕ → ℕ → ℕ → Type 0 → Type 0
-Bounded low high k P = if ltb k low then ⊥ else if ltb high k then ⊥ else P
+Bounded low high k P = on ltb k low so ⊥ else on ltb high k so ⊥ else P
 
 -- where that holds, k is from low to high; and where k is, P holds
 between : (low high k : ℕ) (P : Type 0) → Bounded low high k P → (low ≤ k) × (k ≤ high)
 between low high k P w = go (ltb k low) refl (ltb high k) refl w
   where
-    go : (a : Bool) → ltb k low ≡ a → (b : Bool) → ltb high k ≡ b → (if a then ⊥ else if b then ⊥ else P) → (low ≤ k) × (k ≤ high)
+    go : (a : Bool) → ltb k low ≡ a → (b : Bool) → ltb high k ≡ b → (on a so ⊥ else on b so ⊥ else P) → (low ≤ k) × (k ≤ high)
     go true p b q w = absurd w
     go false p true q w = absurd w
     go false p false q w = (ltb-false k low p, ltb-false high k q)
@@ -172,30 +179,30 @@ pub record WithName (S : Source) (at : ℕ) (P : Name → Type 0) : Type 0 where
 -- what a kind says of the expression that stands at its record
 abbrev Shape : Source → Expr → ℕ → ℕ → Type 0
 Shape S e at k = Bounded 40 83 k (
-    if leb 47 k && leb k 66 then TwoParts S (binary (op_at k)) e at else
-    if eqb k 40 then e ≡ const bool (word S at) else
-    if eqb k 41 then e ≡ const int (word S at) else
-    if eqb k 42 then e ≡ const float (word S at) else
-    if eqb k 43 then e ≡ const char (word S at) else
-    if eqb k 44 then WithName S at (λ x. e ≡ var x) else
-    if eqb k 45 then OnePart S (unary Not) e at else
-    if eqb k 46 then OnePart S (unary Neg) e at else
-    if eqb k 67 then ThreeParts S ite e at else
-    if eqb k 68 then OnePart S pre e at else
-    if eqb k 69 then TwoParts S arrow e at else
-    if eqb k 70 then WithName S at (λ f. Arguments S (call f) e at) else
-    if eqb k 71 then WithName S at (λ x. OnePart S (field x) e at) else
-    if eqb k 72 then TwoParts S index e at else
-    if eqb k 73 then Items S tuple e at else
-    if eqb k 74 then Items S array e at else
-    if eqb k 75 then WithName S at (λ x. Values S (struct x) e at) else
-    if eqb k 76 then Cast S e at else
-    if eqb k 77 then WithName S at (λ c. OnePart S (when true c) e at) else
-    if eqb k 78 then WithName S at (λ c. OnePart S (when false c) e at) else
-    if eqb k 79 then WithName S at (λ c. TwoParts S (merge c) e at) else
-    if eqb k 80 then WithName S at (λ f. Arguments S (iterate Map f) e at) else
-    if eqb k 81 then WithName S at (λ f. Seeded S (iterate_from Map f) e at) else
-    if eqb k 82 then WithName S at (λ f. Arguments S (iterate Fold f) e at) else
+    on leb 47 k && leb k 66 so TwoParts S (binary (op_at k)) e at else
+    on eqb k 40 so e ≡ const bool (word S at) else
+    on eqb k 41 so e ≡ const int (word S at) else
+    on eqb k 42 so e ≡ const float (word S at) else
+    on eqb k 43 so e ≡ const char (word S at) else
+    on eqb k 44 so WithName S at (λ x. e ≡ var x) else
+    on eqb k 45 so OnePart S (unary Not) e at else
+    on eqb k 46 so OnePart S (unary Neg) e at else
+    on eqb k 67 so ThreeParts S ite e at else
+    on eqb k 68 so OnePart S pre e at else
+    on eqb k 69 so TwoParts S arrow e at else
+    on eqb k 70 so WithName S at (λ f. Arguments S (call f) e at) else
+    on eqb k 71 so WithName S at (λ x. OnePart S (field x) e at) else
+    on eqb k 72 so TwoParts S index e at else
+    on eqb k 73 so Items S tuple e at else
+    on eqb k 74 so Items S array e at else
+    on eqb k 75 so WithName S at (λ x. Values S (struct x) e at) else
+    on eqb k 76 so Cast S e at else
+    on eqb k 77 so WithName S at (λ c. OnePart S (when true c) e at) else
+    on eqb k 78 so WithName S at (λ c. OnePart S (when false c) e at) else
+    on eqb k 79 so WithName S at (λ c. TwoParts S (merge c) e at) else
+    on eqb k 80 so WithName S at (λ f. Arguments S (iterate Map f) e at) else
+    on eqb k 81 so WithName S at (λ f. Seeded S (iterate_from Map f) e at) else
+    on eqb k 82 so WithName S at (λ f. Arguments S (iterate Fold f) e at) else
     WithName S at (λ f. Seeded S (iterate_from Fold f) e at))
 
 module _ (S : Source) (at : ℕ) where
@@ -349,8 +356,8 @@ pub record ArrayType (S : Source) (t : Ty) (at : ℕ) : Type 0 where
 -- what a kind says of the type that stands at its record
 abbrev TypeShape : Source → Ty → ℕ → ℕ → Type 0
 TypeShape S t at k = Bounded 20 33 k (
-    if eqb k 32 then ArrayType S t at else
-    if eqb k 33 then WithName S at (λ x. t ≡ Named x) else
+    on eqb k 32 so ArrayType S t at else
+    on eqb k 33 so WithName S at (λ x. t ≡ Named x) else
     t ≡ basic k)
 
 pub eqb_test : Test eqb
@@ -397,8 +404,8 @@ pub record Body {X : Type 0} (form : X → Decl) (P : X → ℕ → Type 0) (d :
 -- what a kind says of the declaration that stands at its record
 abbrev DeclShape : Source → Decl → ℕ → ℕ → Type 0
 DeclShape S d at k = Bounded 4 6 k (
-    if eqb k 4 then WithName S at (λ x. Body (Alias x) (TypeAt S) d at) else
-    if eqb k 5 then WithName S at (λ x. Body (Record x) (PortsAt S) d at) else
+    on eqb k 4 so WithName S at (λ x. Body (Alias x) (TypeAt S) d at) else
+    on eqb k 5 so WithName S at (λ x. Body (Record x) (PortsAt S) d at) else
     WithName S at (λ x. Body (Enum x) (NamesAt S) d at))
 
 module _ (S : Source) (at : ℕ) where

@@ -1,8 +1,8 @@
 -- How many parts follow a record of a type or an expression, and what a walk over an expression's records starts from. Document 01,
 -- 'Records, in order of writing'.
 -- Assumes nothing: these are definitions.
-use Rattle.std.specs.Prelude.{ℕ, List, [], ◌∷◌, ◌++◌, eqb, get_or, replicate}
-use Rattle.lustre.specs.Name.{Name, if◌then◌else◌}
+use Rattle.std.specs.Prelude.{ℕ, List, [], ◌∷◌, ◌++◌, eqb, get_or, replicate, if◌then◌else◌}
+use Rattle.lustre.specs.Name.{Name}
 use Rattle.lustre.specs.Expr.{Expr}
 use Rattle.standing.specs.Standing.{source, ExprAt}
 

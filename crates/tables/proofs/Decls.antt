@@ -1,11 +1,12 @@
 -- One type entered.
 -- Assumes nothing.
+use Rattle.std.specs.Prelude.{if◌then◌else◌}
 use Prim.Native.Nat.{ℕ, suc, ◌+◌, ◌<◌}
 use native.Mathlib.Omega.{arith}
 use mathlib.Core.Path.{◌≡◌, refl, sym, ◌∙◌, ap, subst}
 use mathlib.Core.List.{List, [], ◌∷◌, ◌++◌, map, map-append, append-nil, append_assoc}
 use lib.ListN.{length, get_or, set}
-use Rattle.lustre.specs.Name.{Name, if◌then◌else◌, ◌is◌, ◌among◌}
+use Rattle.lustre.specs.Name.{Name, ◌is◌, ◌among◌}
 use Rattle.lustre.specs.Types.{Ty}
 use Rattle.lustre.specs.Project.{Port, Decl, Alias, Record, Enum, decl_name}
 use Rattle.lustre.specs.Line.{at_package, about}

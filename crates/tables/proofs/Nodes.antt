@@ -1,5 +1,6 @@
 -- The pass that enters constants and nodes, step by step: lib.rs 174.
 -- Assumes nothing.
+use Rattle.std.specs.Prelude.{if◌then◌else◌}
 use Prim.Native.Nat.{ℕ, suc, ◌+◌, ◌≤◌, ◌<◌}
 use native.Mathlib.Numerals.{add-one}
 use mathlib.Core.Path.{◌≡◌, refl, ap, sym, ◌∙◌}
@@ -7,7 +8,7 @@ use mathlib.Core.Bool.{not}
 use mathlib.Core.List.{List, [], ◌∷◌, ◌++◌, map, map-append, append_assoc, append-nil}
 use lib.Dec.{eqb}
 use lib.ListN.{length, get_or, set}
-use Rattle.lustre.specs.Name.{Name, if◌then◌else◌, ◌among◌, mem}
+use Rattle.lustre.specs.Name.{Name, ◌among◌, mem}
 use Rattle.lustre.specs.Types.{Ty}
 use Rattle.lustre.specs.Project.{Constant, Heading, heading, skeleton, all_types, all_constants, all_nodes}
 use Rattle.lustre.specs.Line.{Line, at_node, about}

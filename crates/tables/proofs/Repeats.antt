@@ -1,12 +1,13 @@
 -- A line for a name that has been declared before.
 -- Assumes nothing.
+use Rattle.std.specs.Prelude.{if◌then◌else◌}
 use Prim.Native.Nat.{ℕ}
 use mathlib.Core.Path.{◌≡◌, sym, ◌∙◌}
 use mathlib.Core.Bool.{Bool, true, false, not}
 use mathlib.Core.List.{List, [], ◌∷◌, ◌++◌, map, map-append}
 use mathlib.Core.Logic.{⊎_elim}
 use mathlib.Core.Option.{none}
-use Rattle.lustre.specs.Name.{Name, if◌then◌else◌, ◌is◌}
+use Rattle.lustre.specs.Name.{Name, ◌is◌}
 use Rattle.lustre.specs.Line.{Place, about}
 use Rattle.lustre.specs.Answer.{place_number, or_none}
 use Rattle.lustre.specs.Report.{line}

@@ -1,7 +1,7 @@
 -- What the passes over declarations ask and what they have entered.
 -- Assumes nothing: these are definitions.
-use Rattle.std.specs.Prelude.{ℕ, ◌<◌, ◌≡◌, List, [], ◌∷◌, ◌++◌, map, length, get_or}
-use Rattle.lustre.specs.Name.{Name, if◌then◌else◌, ◌among◌, lookup}
+use Rattle.std.specs.Prelude.{ℕ, ◌<◌, ◌≡◌, List, [], ◌∷◌, ◌++◌, map, length, get_or, if◌then◌else◌}
+use Rattle.lustre.specs.Name.{Name, ◌among◌, lookup}
 use Rattle.lustre.specs.Project.{Decl, Enum, skeleton, decl_name, all_types}
 use Rattle.lustre.specs.Line.{Line, at_package, about}
 use Rattle.lustre.specs.Report.{line, variants_in, repeated_variants, alias_numbers, alias_line}

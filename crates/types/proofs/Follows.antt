@@ -1,5 +1,6 @@
 -- Laws of following a name with its lengths only counted: a type's arrays and what is inside them, and one law for each way that `follow`,
 -- `basic_kind` and `same_basic` go. Assumes nothing.
+use Rattle.std.specs.Prelude.{if◌then◌else◌}
 use Prim.Native.Nat.{ℕ, zero, suc, ◌+◌, ◌-◌, ◌≤◌, ◌<◌}
 use mathlib.Core.Path.{◌≡◌, refl, ap, sym, ◌∙◌}
 use mathlib.Core.Bool.{Bool, true, false}
@@ -10,7 +11,6 @@ use native.Mathlib.Decide.{ℕ_discrete}
 use lib.Dec.{eqb}
 use lib.ListN.{get_or, drop}
 use borrow.Author.Tests.{eq-eqb, ne_eqb}
-use Rattle.lustre.specs.Name.{if◌then◌else◌}
 use Rattle.lustre.specs.Types.{Ty, basic, Array, Named, Tuple}
 use Rattle.lustre.specs.Resolve.{Aliases, array_of, try_resolve, or_itself, resolve}
 use Rattle.types.specs.Value.{Naming, bottom, up, asTy}

@@ -1,4 +1,5 @@
 -- Laws of literals: i64 and its words, ranges for every width, and the type under a hint. Assumes nothing.
+use Rattle.std.specs.Prelude.{if◌then◌else◌}
 use Prim.Native.Nat.{ℕ, zero, suc, ◌-◌, ◌*◌, ◌/◌, ◌^◌, ◌≤◌, ◌<◌, zero-le}
 use mathlib.Core.Path.{◌≡◌, refl, ap, sym, ◌∙◌}
 use mathlib.Core.Bool.{Bool, true, false, not}
@@ -15,7 +16,7 @@ use mir.Syntax.{w64}
 use mir.Val.{to_z, of_z, SFits, Fits, sel}
 use mir.ValLaws.{to_z-of_z, to_z_pos, to_z-Fits, of_z-to_z}
 use borrow.Author.Tests.{eq-eqb, ne_eqb, eqb-false, le-leb, lt-leb, le-ltb, lt-ltb}
-use Rattle.lustre.specs.Name.{Name, if◌then◌else◌}
+use Rattle.lustre.specs.Name.{Name}
 use Rattle.lustre.specs.Types.{Ty, basic, Array, Named, Tuple, within, is_float, signed, range_of}
 use Rattle.lustre.specs.Expr.{Literal, bool, int, float, char}
 use Rattle.lustre.specs.Grammar.{literal_kind}

@@ -1,4 +1,5 @@
 -- Laws of types by value. Assumes nothing.
+use Rattle.std.specs.Prelude.{if◌then◌else◌}
 use Prim.Native.Nat.{ℕ, zero, suc, ◌+◌, ◌≤◌, ◌<◌, ◌-◌}
 use mathlib.Core.Path.{◌≡◌, refl, ap, ap₂, sym, ◌∙◌}
 use mathlib.Core.Bool.{Bool, true, false, ◌&&◌}
@@ -11,7 +12,7 @@ use lib.Dec.{eqb, leb}
 use lib.ListN.{length, get_or, set}
 use lib.Seq.{get_or-set_same, get_or-set_other}
 use borrow.Author.Tests.{eq-eqb, ne_eqb, eqb-true, eqb-false}
-use Rattle.lustre.specs.Name.{if◌then◌else◌, ◌is◌}
+use Rattle.lustre.specs.Name.{◌is◌}
 use Rattle.lustre.specs.Types.{Ty, basic, Array, Named, Tuple, same_type, within, members, levels}
 use Rattle.types.specs.Value.{Naming, Injective, bottom, up, asTy}
 use Rattle.types.specs.declared.Typ.{Typ}

@@ -1,10 +1,9 @@
 -- Literals as the code has them: a number by its sign and magnitude, a range by its sign and width.
 -- Assumes nothing: these are definitions.
-use Rattle.std.specs.Prelude.{ℕ, ◌≡◌, Bool, true, false, List, eqb, ℤ, pos, negsuc, neg_ℤ}
+use Rattle.std.specs.Prelude.{ℕ, ◌≡◌, Bool, true, false, List, eqb, ℤ, pos, negsuc, neg_ℤ, if◌then◌else◌}
 use Rattle.std.proofs.Math.Option.{Option, none, some}
 use Rattle.std.specs.Int.{w64}
 use Rattle.std.proofs.Common.{to_z}
-use Rattle.lustre.specs.Name.{if◌then◌else◌}
 use Rattle.lustre.specs.Types.{Ty, basic, Range, signed, unsigned}
 use Rattle.lustre.specs.Resolve.{Aliases}
 use Rattle.types.specs.Value.{Naming, maybe}

@@ -1,8 +1,7 @@
 -- A type in the records at a place: as many arrays as there are kinds 32, then a basic type or a name. Document 01, 'Records, in order
 -- of writing': a length is below 2^32, a name's number below 512, and a type has at most 68 levels.
 -- Assumes nothing: these are definitions.
-use Rattle.std.specs.Prelude.{ℕ, suc, ◌+◌, ◌<◌, ◌≤◌, ◌≡◌, Bool, true, false, ◌&&◌, List, [], ◌∷◌, eqb, leb, ltb, length, drop}
-use Rattle.lustre.specs.Name.{if◌then◌else◌}
+use Rattle.std.specs.Prelude.{ℕ, suc, ◌+◌, ◌<◌, ◌≤◌, ◌≡◌, Bool, true, false, ◌&&◌, List, [], ◌∷◌, eqb, leb, ltb, length, drop, if◌then◌else◌}
 use Rattle.lustre.specs.Types.{Ty, basic, Array, levels}
 use Rattle.types.specs.Value.{Naming, bottom, asTy, Known}
 use Rattle.types.specs.declared.Typ.{Typ}

@@ -1,9 +1,8 @@
 -- The aliases as the code has them: in the first 512 entries of the scope, by name number. An entry is 0 for no alias, else 1 and the
 -- number of the record that declares it, which is the place of the type behind that record.
 -- Assumes nothing: these are definitions.
-use Rattle.std.specs.Prelude.{ℕ, ◌+◌, ◌≤◌, max, ◌≡◌, Bool, true, false, List, [], eqb, ltb, length, get_or}
+use Rattle.std.specs.Prelude.{ℕ, ◌+◌, ◌≤◌, max, ◌≡◌, Bool, true, false, List, [], eqb, ltb, length, get_or, if◌then◌else◌}
 use Rattle.std.proofs.Math.Option.{Option, none, some}
-use Rattle.lustre.specs.Name.{if◌then◌else◌}
 use Rattle.lustre.specs.Types.{Ty, basic, Array, Named, Tuple}
 use Rattle.lustre.specs.Resolve.{Aliases, try_resolve, resolve, compatible}
 use Rattle.types.specs.Value.{Naming, Injective, bottom, asTy, maybe, Known}

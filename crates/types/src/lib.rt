@@ -9,9 +9,8 @@ pub mod aliases;
 pub mod literal;
 pub mod records;
 
-ghost use Rattle.std.specs.Prelude.{◌≡◌, ◌&&◌, ◌+◌, ◌<◌, ◌≤◌, leb};
+ghost use Rattle.std.specs.Prelude.{◌≡◌, ◌&&◌, ◌+◌, ◌<◌, ◌≤◌, leb, if◌then◌else◌};
 ghost use Rattle.std.proofs.Math.Option.{none, some};
-ghost use Rattle.lustre.specs.Name.{if◌then◌else◌};
 ghost use Rattle.lustre.specs.Types.{same_type, within, is_bool, is_integer, is_numeric, members};
 ghost use Rattle.types.specs.Value.{Naming, Injective, bottom, asTy, outer, Bottom, ArrayOf, Around};
 
