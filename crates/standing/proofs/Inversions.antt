@@ -36,10 +36,10 @@ unfoldable pub op_at : ℕ → BinOp
 op_at k = get_or operators (k - 47) Shr
 
 -- the choice of two facts by a test
-infix 1 on◌so◌else◌
-abbrev on◌so◌else◌ : Bool → Type 0 → Type 0 → Type 0
-on true so a else b = a
-on false so a else b = b
+infix 1 should◌so◌else◌
+abbrev should◌so◌else◌ : Bool → Type 0 → Type 0 → Type 0
+should true so a else b = a
+should false so a else b = b
 
 abbrev class_at : ℕ → OpClass
 class_at k = if leb k 50 then Logic else if leb k 52 then Equality else if leb k 56 then Order else if leb k 61 then Arithmetic else Bitwise
@@ -82,13 +82,13 @@ module _ (k : ℕ) where
 
 -- P where k is from low to high, and nothing elsewhere
 abbrev Bounded : ℕ → ℕ → ℕ → Type 0 → Type 0
-Bounded low high k P = on ltb k low so ⊥ else on ltb high k so ⊥ else P
+Bounded low high k P = should ltb k low so ⊥ else should ltb high k so ⊥ else P
 
 -- where that holds, k is from low to high; and where k is, P holds
 between : (low high k : ℕ) (P : Type 0) → Bounded low high k P → (low ≤ k) × (k ≤ high)
 between low high k P w = go (ltb k low) refl (ltb high k) refl w
   where
-    go : (a : Bool) → ltb k low ≡ a → (b : Bool) → ltb high k ≡ b → (on a so ⊥ else on b so ⊥ else P) → (low ≤ k) × (k ≤ high)
+    go : (a : Bool) → ltb k low ≡ a → (b : Bool) → ltb high k ≡ b → (should a so ⊥ else should b so ⊥ else P) → (low ≤ k) × (k ≤ high)
     go true p b q w = absurd w
     go false p true q w = absurd w
     go false p false q w = (ltb-false k low p, ltb-false high k q)
@@ -179,30 +179,30 @@ pub record WithName (S : Source) (at : ℕ) (P : Name → Type 0) : Type 0 where
 -- what a kind says of the expression that stands at its record
 abbrev Shape : Source → Expr → ℕ → ℕ → Type 0
 Shape S e at k = Bounded 40 83 k (
-    on leb 47 k && leb k 66 so TwoParts S (binary (op_at k)) e at else
-    on eqb k 40 so e ≡ const bool (word S at) else
-    on eqb k 41 so e ≡ const int (word S at) else
-    on eqb k 42 so e ≡ const float (word S at) else
-    on eqb k 43 so e ≡ const char (word S at) else
-    on eqb k 44 so WithName S at (λ x. e ≡ var x) else
-    on eqb k 45 so OnePart S (unary Not) e at else
-    on eqb k 46 so OnePart S (unary Neg) e at else
-    on eqb k 67 so ThreeParts S ite e at else
-    on eqb k 68 so OnePart S pre e at else
-    on eqb k 69 so TwoParts S arrow e at else
-    on eqb k 70 so WithName S at (λ f. Arguments S (call f) e at) else
-    on eqb k 71 so WithName S at (λ x. OnePart S (field x) e at) else
-    on eqb k 72 so TwoParts S index e at else
-    on eqb k 73 so Items S tuple e at else
-    on eqb k 74 so Items S array e at else
-    on eqb k 75 so WithName S at (λ x. Values S (struct x) e at) else
-    on eqb k 76 so Cast S e at else
-    on eqb k 77 so WithName S at (λ c. OnePart S (when true c) e at) else
-    on eqb k 78 so WithName S at (λ c. OnePart S (when false c) e at) else
-    on eqb k 79 so WithName S at (λ c. TwoParts S (merge c) e at) else
-    on eqb k 80 so WithName S at (λ f. Arguments S (iterate Map f) e at) else
-    on eqb k 81 so WithName S at (λ f. Seeded S (iterate_from Map f) e at) else
-    on eqb k 82 so WithName S at (λ f. Arguments S (iterate Fold f) e at) else
+    should leb 47 k && leb k 66 so TwoParts S (binary (op_at k)) e at else
+    should eqb k 40 so e ≡ const bool (word S at) else
+    should eqb k 41 so e ≡ const int (word S at) else
+    should eqb k 42 so e ≡ const float (word S at) else
+    should eqb k 43 so e ≡ const char (word S at) else
+    should eqb k 44 so WithName S at (λ x. e ≡ var x) else
+    should eqb k 45 so OnePart S (unary Not) e at else
+    should eqb k 46 so OnePart S (unary Neg) e at else
+    should eqb k 67 so ThreeParts S ite e at else
+    should eqb k 68 so OnePart S pre e at else
+    should eqb k 69 so TwoParts S arrow e at else
+    should eqb k 70 so WithName S at (λ f. Arguments S (call f) e at) else
+    should eqb k 71 so WithName S at (λ x. OnePart S (field x) e at) else
+    should eqb k 72 so TwoParts S index e at else
+    should eqb k 73 so Items S tuple e at else
+    should eqb k 74 so Items S array e at else
+    should eqb k 75 so WithName S at (λ x. Values S (struct x) e at) else
+    should eqb k 76 so Cast S e at else
+    should eqb k 77 so WithName S at (λ c. OnePart S (when true c) e at) else
+    should eqb k 78 so WithName S at (λ c. OnePart S (when false c) e at) else
+    should eqb k 79 so WithName S at (λ c. TwoParts S (merge c) e at) else
+    should eqb k 80 so WithName S at (λ f. Arguments S (iterate Map f) e at) else
+    should eqb k 81 so WithName S at (λ f. Seeded S (iterate_from Map f) e at) else
+    should eqb k 82 so WithName S at (λ f. Arguments S (iterate Fold f) e at) else
     WithName S at (λ f. Seeded S (iterate_from Fold f) e at))
 
 module _ (S : Source) (at : ℕ) where
@@ -356,8 +356,8 @@ pub record ArrayType (S : Source) (t : Ty) (at : ℕ) : Type 0 where
 -- what a kind says of the type that stands at its record
 abbrev TypeShape : Source → Ty → ℕ → ℕ → Type 0
 TypeShape S t at k = Bounded 20 33 k (
-    on eqb k 32 so ArrayType S t at else
-    on eqb k 33 so WithName S at (λ x. t ≡ Named x) else
+    should eqb k 32 so ArrayType S t at else
+    should eqb k 33 so WithName S at (λ x. t ≡ Named x) else
     t ≡ basic k)
 
 pub eqb_test : Test eqb
@@ -404,8 +404,8 @@ pub record Body {X : Type 0} (form : X → Decl) (P : X → ℕ → Type 0) (d :
 -- what a kind says of the declaration that stands at its record
 abbrev DeclShape : Source → Decl → ℕ → ℕ → Type 0
 DeclShape S d at k = Bounded 4 6 k (
-    on eqb k 4 so WithName S at (λ x. Body (Alias x) (TypeAt S) d at) else
-    on eqb k 5 so WithName S at (λ x. Body (Record x) (PortsAt S) d at) else
+    should eqb k 4 so WithName S at (λ x. Body (Alias x) (TypeAt S) d at) else
+    should eqb k 5 so WithName S at (λ x. Body (Record x) (PortsAt S) d at) else
     WithName S at (λ x. Body (Enum x) (NamesAt S) d at))
 
 module _ (S : Source) (at : ℕ) where
