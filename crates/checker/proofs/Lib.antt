@@ -1,3 +1,2 @@
-pub mod Local
 pub mod Turns
 pub mod Demands

@@ -1,24 +1,20 @@
 -- What the loop of `check_reader` has between two batches, and how a batch moves it on.
---     State        the batch, what the work memory and the lines hold, and what holds of them
---     start, later the state before the first batch is stored; after one more.        ended       at the end the lines and the work memory are as after the call
+--     Turned        what holds of the batch, the work memory and the lines between two batches
+--     later         it holds after one more.        ended       at the end the lines are as after the call
 -- Assumes nothing.
 use mathlib.Core.Path.{◌≡◌, refl, sym, ap, ◌∙◌}
-use Prim.Native.Nat.{ℕ, zero, suc, ◌+◌, ◌-◌, ◌<◌, ◌≤◌, zero-le}
+use Prim.Native.Nat.{ℕ, zero, suc, ◌+◌, ◌-◌, ◌^◌, ◌<◌, ◌≤◌, zero-le}
 use native.Mathlib.Nat.{add-zero, add-suc, le_of_suc-le-suc, not-suc-le-zero}
 use native.Mathlib.Omega.{arith}
 use mathlib.Core.Bool.{Bool, true, false}
 use mathlib.Core.List.{List, [], ◌∷◌, ◌++◌}
 use lib.ListN.{length, get_or, set, take, drop, length-append, length-take, length-drop}
-use denote.Laws.{Is}
-use denote.Struct.Laws as LL
 use Rattle.lustre.specs.Answer.{answer, writes, stored_report, over, lines_after}
 use Rattle.lustre.specs.declared.Line.{Line}
 use Rattle.lines.specs.Lines.{line_in}
 use Rattle.stored.specs.Laid.{laid}
 use Rattle.staging.specs.declared.Batch.{Batch}
-use Rattle.staging.specs.Batches.{due, blank, Batched}
-use Rattle.staging.specs.contracts.Batch as F
-use Rattle.staging.proofs.Batch.TheLaws as F'
+use Rattle.staging.specs.Batches.{due, blank, Batched, Going}
 
 -- ---- lists
 
@@ -72,52 +68,47 @@ module _ (ks ws text : List ℕ) (work : ℕ) where
       go true = ap (λ (l : List Line). take (length ys) (stored_report ks ws text) ++ l) (drop_fitting (stored_report ks ws text) ys)
       go false = refl
 
--- ---- the state
-pub record State (ks ws text lent : List ℕ) (ys : List Line) : Type 0 where
-  pub b : Batch
-  pub zs : List ℕ
-  pub ls : List Line
-  pub zs_length : length zs ≡ length lent
+-- ---- between two batches
+
+-- The batch b stands in zs, which is as long as the memory lent, and the lines ls are those lent with the first b.at that are due over them.
+pub record Turned (ks ws text lent : List ℕ) (ys : List Line) (b : Batch) (zs : List ℕ) (ls : List Line) : Type 0 where
+  pub long : length zs ≡ length lent
   pub batched : Batched ks ws text lent (length ys) b zs
   pub ls_are : ls ≡ take b.at (due ks ws text (length lent) (length ys)) ++ drop b.at ys
-  pub is : Is F.the_row b (LL.val F.the_type F'.the_laws b ∷ [])
 
-module _ {ks ws text lent : List ℕ} {ys : List Line} where
-  abbrev pub start : (b : Batch) (zs : List ℕ) → length zs ≡ length lent → Batched ks ws text lent (length ys) b zs × (b.at ≡ 0) → Is F.the_row b (LL.val F.the_type F'.the_laws b ∷ []) → State ks ws text lent ys
-  start b zs l e is = record { b = b; zs = zs; ls = ys; zs_length = l; batched = e.0; ls_are = ap (λ (n : ℕ). take n (due ks ws text (length lent) (length ys)) ++ drop n ys) (sym e.1); is = is }
-
+module _ {ks ws text lent : List ℕ} {ys : List Line} {b : Batch} {zs : List ℕ} {ls : List Line} (s : Turned ks ws text lent ys b zs ls) where
   -- as many lines as were lent
-  pub ls_length : (s : State ks ws text lent ys) → length s.ls ≡ length ys
-  ls_length s =
-      ap length s.ls_are ∙ length-append (take s.b.at (due ks ws text (length lent) (length ys))) (drop s.b.at ys)
-      ∙ (λ i. length-take s.b.at (due ks ws text (length lent) (length ys)) i + length-drop s.b.at ys i)
+  pub ls_length : length ls ≡ length ys
+  ls_length =
+      ap length s.ls_are ∙ length-append (take b.at (due ks ws text (length lent) (length ys))) (drop b.at ys)
+      ∙ (λ i. length-take b.at (due ks ws text (length lent) (length ys)) i + length-drop b.at ys i)
       ∙ omega (arith, s.batched.within, s.batched.sums.goal, due_fits ks ws text (length lent) (length ys))
 
   -- the batch has its place in the lines
-  pub in_room : (s : State ks ws text lent ys) → s.b.at + s.b.count ≤ length s.ls
-  in_room s = omega (arith, ls_length s, s.batched.within, s.batched.sums.goal, due_fits ks ws text (length lent) (length ys))
+  pub in_room : b.at + b.count ≤ length ls
+  in_room = omega (arith, ls_length, s.batched.within, s.batched.sums.goal, due_fits ks ws text (length lent) (length ys))
 
-  abbrev pub later : (s : State ks ws text lent ys) (b : Batch) (zs : List ℕ) (ls : List Line) → length zs ≡ length s.zs → Batched ks ws text lent (length ys) b zs × (b.at ≡ s.b.at + s.b.count)
-      → ls ≡ laid s.ls s.b.at s.zs s.b.count → Is F.the_row b (LL.val F.the_type F'.the_laws b ∷ []) → State ks ws text lent ys
-  later s b zs ls l e e' is = record {
-    b = b;
-    zs = zs;
-    ls = ls;
-    zs_length = l ∙ s.zs_length;
-    batched = e.0;
-    ls_are = e' ∙ ap (λ (l : List Line). laid l s.b.at s.zs s.b.count) s.ls_are
-        ∙ laid_next (due ks ws text (length lent) (length ys)) ys s.b.at s.zs s.b.count (omega (arith, s.batched.within, s.batched.sums.goal)) (due_fits ks ws text (length lent) (length ys)) s.batched.lines
-        ∙ ap (λ (n : ℕ). take n (due ks ws text (length lent) (length ys)) ++ drop n ys) (sym e.1);
-    is = is;
+  -- while lines are left the next batch may be asked for
+  abbrev pub going : length ys < 2 ^ 63 → b.at < b.goal → Going ks ws zs b
+  going small more = record { text = text; lent = lent; room = length ys; small = small; long = s.long; batch = s.batched; more = more }
+
+  -- after one more batch
+  pub later : {c : Batch} {zs' : List ℕ} {ls' : List Line} → length zs' ≡ length zs → Batched ks ws text lent (length ys) c zs' → c.at ≡ b.at + b.count → ls' ≡ laid ls b.at zs b.count → Turned ks ws text lent ys c zs' ls'
+  later l batched e e' = record {
+    long = l ∙ s.long;
+    batched = batched;
+    ls_are = e' ∙ ap (λ (l : List Line). laid l b.at zs b.count) s.ls_are
+        ∙ laid_next (due ks ws text (length lent) (length ys)) ys b.at zs b.count (omega (arith, s.batched.within, s.batched.sums.goal)) (due_fits ks ws text (length lent) (length ys)) s.batched.lines
+        ∙ ap (λ (n : ℕ). take n (due ks ws text (length lent) (length ys)) ++ drop n ys) (sym e);
   }
 
   -- fewer lines are left
-  pub fewer : (s : State ks ws text lent ys) (b : Batch) → s.b.at < s.b.goal → b.at ≡ s.b.at + s.b.count → length (due ks ws text (length lent) (length ys)) - b.at < length (due ks ws text (length lent) (length ys)) - s.b.at
-  fewer s b small e = omega (arith, e, s.batched.some small, s.batched.within, s.batched.sums.goal)
+  pub fewer : {c : Batch} {zs' : List ℕ} → b.at < b.goal → Batched ks ws text lent (length ys) c zs' → c.at ≡ b.at + b.count → c.goal - c.at < b.goal - b.at
+  fewer small batched e = omega (arith, e, s.batched.some small, s.batched.within, s.batched.sums.goal, batched.sums.goal)
 
   -- at the end all are stored
-  pub ended : (s : State ks ws text lent ys) → s.b.at ≡ s.b.goal → s.ls ≡ lines_after ks ws text (length lent) ys
-  ended s e =
+  pub ended : b.at ≡ b.goal → ls ≡ lines_after ks ws text (length lent) ys
+  ended e =
       s.ls_are ∙ ap (λ (n : ℕ). take n (due ks ws text (length lent) (length ys)) ++ drop n ys) (e ∙ s.batched.sums.goal)
       ∙ ap (λ (l : List Line). l ++ drop (length (due ks ws text (length lent) (length ys))) ys) (take_all (due ks ws text (length lent) (length ys)))
       ∙ due_over ks ws text (length lent) ys
