@@ -1,6 +1,6 @@
 /* Wuroike: the check of a project of a Lustre dialect, as a call on lent memory, in two forms that give the same answers.
  *
- * Link libexports.a (rt staticlib exports). It needs memcpy and memset and nothing else: no heap, no files, no static memory that is
+ * Link libexports.a (`rt lib` in crates/exports). It needs memcpy and memset and nothing else: no heap, no files, no static memory that is
  * written, no locks. Calls on memory that does not overlap may run at once in several threads.
  *
  * A call reads the records and the text, writes the work memory, the lines and the two numbers, and nothing else. It is proved for all

@@ -14,14 +14,14 @@ import sys
 HEAD = """\
 -- Random models with the answers of the Rust, made by tests/oracle.
 use Prim.Native.Nat.{ℕ}
-use mathlib.Core.Path.{_≡_, refl}
-use mathlib.Core.List.{List, [], _∷_, map}
-use Rattle·lustre.specs.Answer.{answer, stored-report}
-use Rattle·lustre.specs.Line.{severity, Severity, Error, Warning}
-use Rattle·lustre.specs.Computes.{computes}
-use Rattle·lustre.specs.declared.Line.{Line}
-use Rattle·lustre.specs.declared.Answer.{Answer}
-use Rattle·lustre.specs.declared.Answer.the-variants.{Report}
+use mathlib.Core.Path.{◌≡◌, refl}
+use mathlib.Core.List.{List, [], ◌∷◌, map}
+use Rattle.lustre.specs.Answer.{answer, stored_report}
+use Rattle.lustre.specs.Line.{severity, Severity, Error, Warning}
+use Rattle.lustre.specs.Computes.{computes}
+use Rattle.lustre.specs.declared.Line.{Line}
+use Rattle.lustre.specs.declared.Answer.{Answer}
+use Rattle.lustre.specs.declared.Answer.TheVariants.{Report}
 
 -- a line with its severity
 abbrev ln : Severity → ℕ → ℕ → ℕ → ℕ → ℕ → ℕ → Line × Severity
@@ -31,7 +31,7 @@ abbrev Judged : Type 0
 Judged = Answer × List (Line × Severity)
 
 abbrev judged : List ℕ → List ℕ → List ℕ → Judged
-judged kinds words text = (answer kinds words text 4096 4096, map (λ l. (l, severity (l .code))) (stored-report kinds words text))
+judged kinds words text = (answer kinds words text 4096 4096, map (λ l. (l, severity l.code)) (stored_report kinds words text))
 """
 
 
@@ -44,7 +44,7 @@ def statement(number, model):
     lines = [f"ln {s} {' '.join(map(str, line))}" for s, line in zip(severities, model["lines"])]
     given = " ".join(antt_list(model[part]) for part in ("kinds", "words", "text"))
     answer = f"Report {len(lines)} {model['followed']}"
-    return (f"\nm{number} : _≡_ {{A = Judged}} (judged {given})\n    ({answer}, {antt_list(lines)})\n"
+    return (f"\nm{number} : ◌≡◌ {{A = Judged}} (judged {given})\n    ({answer}, {antt_list(lines)})\n"
             f"unfolding computes\nm{number} = refl\n")
 
 
