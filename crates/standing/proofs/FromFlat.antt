@@ -157,7 +157,7 @@ module _ (ρ : ℕ → Name) (ks ws : List ℕ) where
 
   -- where the records from a position on are those of x and then k, x stands there and k is left
   abbrev pub Walks : {X : Type 0} → (X → List Rec → List Rec) → (X → Type 0) → (X → ℕ → Type 0) → (X → ℕ) → Type 0
-  Walks {X} f W P type_size = (x : X) → W x → (at : ℕ) (k : List Rec) → Left at (f x k) → P x at × Left (at + type_size x) k
+  Walks {X} f W P size_of = (x : X) → W x → (at : ℕ) (k : List Rec) → Left at (f x k) → P x at × Left (at + size_of x) k
 
   module _ (names : ℕ) (few : names ≤ 512) (ranged : (at : ℕ) → at < length ks → in_class names (word_class (get_or ks at 0)) (get_or ws at 0) ≡ true) where
     -- a record that stands there, what is spelled there, and what is left
@@ -299,21 +299,21 @@ module _ (ρ : ℕ → Name) (ks ws : List ℕ) where
           ((f.head, named refl f, i.0, j.0), moved (omega arith) j.1)
 
     -- parts one after another, and behind a list record that counts them
-    pub walk_each : {X : Type 0} (f : X → List Rec → List Rec) (W : X → Type 0) (P : X → ℕ → Type 0) (type_size : X → ℕ) → Walks f W P type_size
-        → Walks (each_of f) (Each W) (EachAt P type_size) (sizes_of type_size)
+    pub walk_each : {X : Type 0} (f : X → List Rec → List Rec) (W : X → Type 0) (P : X → ℕ → Type 0) (size_of : X → ℕ) → Walks f W P size_of
+        → Walks (each_of f) (Each W) (EachAt P size_of) (sizes_of size_of)
     unfolding each_of EachAt sizes_of
-    walk_each f W P type_size each [] h at k l = (tt, moved (omega arith) l)
-    walk_each f W P type_size each (x ∷ xs) h at k l =
+    walk_each f W P size_of each [] h at k l = (tt, moved (omega arith) l)
+    walk_each f W P size_of each (x ∷ xs) h at k l =
         let i = each x h.0 at (each_of f xs k) l in
-        let j = walk_each f W P type_size each xs h.1 (at + type_size x) k i.1 in
+        let j = walk_each f W P size_of each xs h.1 (at + size_of x) k i.1 in
         ((i.0, j.0), moved (omega arith) j.1)
 
-    pub walk_list : {X : Type 0} (f : X → List Rec → List Rec) (W : X → Type 0) (P : X → ℕ → Type 0) (type_size : X → ℕ) → Walks f W P type_size
-        → Walks (list_of f) (Each W) (ListAt S P type_size) (list_size type_size)
+    pub walk_list : {X : Type 0} (f : X → List Rec → List Rec) (W : X → Type 0) (P : X → ℕ → Type 0) (size_of : X → ℕ) → Walks f W P size_of
+        → Walks (list_of f) (Each W) (ListAt S P size_of) (list_size size_of)
     unfolding word_class class_in word_classes mem spell_as
-    walk_list f W P type_size each xs h at k l =
+    walk_list f W P size_of each xs h at k l =
         let g = found l in
-        let i = walk_each f W P type_size each xs h (at + 1) k g.rest in
+        let i = walk_each f W P size_of each xs h (at + 1) k g.rest in
         (record { head = g.head; many = numbered (λ w t. refl) g; items = i.0 }, moved (omega arith) i.1)
 
     pub walk_port : Walks flat_port (λ (p : Port). WritableType p.1) (PortAt S) port_size

@@ -71,11 +71,11 @@ names_sizes (x ∷ xs) = omega (arith, names_sizes xs)
 module _ (S : Source) where
   -- what P says to stand ends within the records
   abbrev pub Ends : {X : Type 0} → (X → ℕ → Type 0) → (X → ℕ) → Type 0
-  Ends {X} P type_size = (x : X) (at : ℕ) → P x at → at + type_size x ≤ length S.ks
+  Ends {X} P size_of = (x : X) (at : ℕ) → P x at → at + size_of x ≤ length S.ks
 
   -- so does a list that starts within them
   abbrev pub EndsFrom : {X : Type 0} → (X → ℕ → Type 0) → (X → ℕ) → Type 0
-  EndsFrom {X} P type_size = (x : X) (at : ℕ) → at ≤ length S.ks → P x at → at + type_size x ≤ length S.ks
+  EndsFrom {X} P size_of = (x : X) (at : ℕ) → at ≤ length S.ks → P x at → at + size_of x ≤ length S.ks
 
   pub type_end : Ends (TypeAt S) levels
   unfolding TypeAt levels
@@ -116,13 +116,13 @@ module _ (S : Source) where
     inits_end (init x e vs) at h s = omega (arith, inits_end vs (at + 1 + size e) (expr_end e (at + 1) s.2) s.3)
 
   -- parts that each end within the records, one after another and behind a list record
-  pub each_end : {X : Type 0} (P : X → ℕ → Type 0) (type_size : X → ℕ) → Ends P type_size → EndsFrom (EachAt P type_size) (sizes_of type_size)
+  pub each_end : {X : Type 0} (P : X → ℕ → Type 0) (size_of : X → ℕ) → Ends P size_of → EndsFrom (EachAt P size_of) (sizes_of size_of)
   unfolding EachAt sizes_of
-  each_end P type_size one [] at h s = omega arith
-  each_end P type_size one (x ∷ xs) at h s = omega (arith, each_end P type_size one xs (at + type_size x) (one x at s.0) s.1)
+  each_end P size_of one [] at h s = omega arith
+  each_end P size_of one (x ∷ xs) at h s = omega (arith, each_end P size_of one xs (at + size_of x) (one x at s.0) s.1)
 
-  pub list_end : {X : Type 0} (P : X → ℕ → Type 0) (type_size : X → ℕ) → Ends P type_size → Ends (ListAt S P type_size) (list_size type_size)
-  list_end P type_size one xs at s = omega (arith, each_end P type_size one xs (at + 1) (omega arith) s.items)
+  pub list_end : {X : Type 0} (P : X → ℕ → Type 0) (size_of : X → ℕ) → Ends P size_of → Ends (ListAt S P size_of) (list_size size_of)
+  list_end P size_of one xs at s = omega (arith, each_end P size_of one xs (at + 1) (omega arith) s.items)
 
   pub port_end : Ends (PortAt S) port_size
   port_end p at s = omega (arith, type_end p.1 (at + 1) s.type)
@@ -202,7 +202,7 @@ pub no_items : {X : Type 0} (xs : List X) → length xs ≡ 0 → xs ≡ []
 no_items [] c = refl
 no_items (x ∷ xs) c = absurd (omega arith)
 
-module _ {X : Type 0} (P : X → ℕ → Type 0) (type_size : X → ℕ) where
+module _ {X : Type 0} (P : X → ℕ → Type 0) (size_of : X → ℕ) where
   -- the first of several parts, and the others
   pub record First (xs : List X) (at n : ℕ) : Type 0 where
     pub x : X
@@ -210,16 +210,16 @@ module _ {X : Type 0} (P : X → ℕ → Type 0) (type_size : X → ℕ) where
     pub is : xs ≡ x ∷ rest
     pub fewer : length rest + 1 ≡ n
     pub x_at : P x at
-    pub rest_at : EachAt P type_size rest (at + type_size x)
+    pub rest_at : EachAt P size_of rest (at + size_of x)
 
-  pub first : (xs : List X) (at n : ℕ) → length xs ≡ n → (n ≡ 0 → ⊥) → EachAt P type_size xs at → First xs at n
+  pub first : (xs : List X) (at n : ℕ) → length xs ≡ n → (n ≡ 0 → ⊥) → EachAt P size_of xs at → First xs at n
   unfolding EachAt
   first [] at n c h s = absurd (omega arith)
   first (x ∷ xs) at n c h s = record { x = x; rest = xs; is = refl; fewer = omega arith; x_at = s.0; rest_at = s.1 }
 
   -- each part stands where those before it end
-  pub item : (xs : List X) (at i : ℕ) (x : X) → get_elem? xs i ≡ some x → EachAt P type_size xs at → P x (at + sizes_of type_size (take i xs))
+  pub item : (xs : List X) (at i : ℕ) (x : X) → get_elem? xs i ≡ some x → EachAt P size_of xs at → P x (at + sizes_of size_of (take i xs))
   unfolding EachAt sizes_of
   item [] at i x e s = let z : ◌≡◌ {A = ℕ} 0 1 = cc in absurd (omega arith)
   item (y ∷ xs) at zero x e s = let q : y ≡ x = cc in rw (add-zero at, ← q) s.0
-  item (y ∷ xs) at (suc i) x e s = let q : at + type_size y + sizes_of type_size (take i xs) ≡ at + (type_size y + sizes_of type_size (take i xs)) = omega arith in rw q at (item xs (at + type_size y) i x e s.1)
+  item (y ∷ xs) at (suc i) x e s = let q : at + size_of y + sizes_of size_of (take i xs) ≡ at + (size_of y + sizes_of size_of (take i xs)) = omega arith in rw q at (item xs (at + size_of y) i x e s.1)

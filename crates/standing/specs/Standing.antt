@@ -70,21 +70,21 @@ unfoldable mutual
 
 -- parts one after another, each of a size
 unfoldable pub sizes_of : {X : Type 0} → (X → ℕ) → List X → ℕ
-sizes_of type_size [] = 0
-sizes_of type_size (x ∷ xs) = type_size x + sizes_of type_size xs
+sizes_of size_of [] = 0
+sizes_of size_of (x ∷ xs) = size_of x + sizes_of size_of xs
 
 unfoldable pub EachAt : {X : Type 0} → (X → ℕ → Type 0) → (X → ℕ) → List X → ℕ → Type 0
-EachAt P type_size [] at = Unit {0}
-EachAt P type_size (x ∷ xs) at = P x at × EachAt P type_size xs (at + type_size x)
+EachAt P size_of [] at = Unit {0}
+EachAt P size_of (x ∷ xs) at = P x at × EachAt P size_of xs (at + size_of x)
 
 -- a list record, and as many parts as it says
-pub record ListAt {X : Type 0} (S : Source) (P : X → ℕ → Type 0) (type_size : X → ℕ) (xs : List X) (at : ℕ) : Type 0 where
+pub record ListAt {X : Type 0} (S : Source) (P : X → ℕ → Type 0) (size_of : X → ℕ) (xs : List X) (at : ℕ) : Type 0 where
   pub head : RecAt S at 3
   pub many : word S at ≡ length xs
-  pub items : EachAt P type_size xs (at + 1)
+  pub items : EachAt P size_of xs (at + 1)
 
 abbrev pub list_size : {X : Type 0} → (X → ℕ) → List X → ℕ
-list_size type_size xs = 1 + sizes_of type_size xs
+list_size size_of xs = 1 + sizes_of size_of xs
 
 pub record PortAt (S : Source) (p : Port) (at : ℕ) : Type 0 where
   pub head : RecAt S at 7

@@ -7,13 +7,13 @@ mod table;
 
 ghost use Rattle.std.specs.Prelude.{◌+◌, ◌<◌, ◌≡◌};
 ghost use Rattle.lustre.specs.Expr.{size};
-ghost use Rattle.standing.specs.Owed.{owes as OwesOf, There};
+ghost use Rattle.standing.specs.Owed.{owes as owes_of, There};
 
 // The number of parts that follow a record of a type or an expression. Below 67 only a list, an array type, not, minus and the operators
 // have any.
 pub fn owes(kind: u8, word: u64) -> u64
     requires { kind < 85 }
-    ensures { result ≡ OwesOf kind word }
+    ensures { result ≡ owes_of kind word }
 {
     if kind < 32 {
         if kind == 3 {

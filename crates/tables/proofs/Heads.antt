@@ -121,20 +121,20 @@ module _ {ks ws : List ℕ} (g : Model ks ws) where
 
   -- ---- lists of parts that have no heads
 
-  module _ {X : Type 0} (P : X → ℕ → Type 0) (type_size : X → ℕ) (one : (x : X) (at : ℕ) → P x at → Through at (at + type_size x)) where
+  module _ {X : Type 0} (P : X → ℕ → Type 0) (size_of : X → ℕ) (one : (x : X) (at : ℕ) → P x at → Through at (at + size_of x)) where
     -- parts one after another have none
-    through_each : (xs : List X) (at : ℕ) → EachAt P type_size xs at → Through at (at + sizes_of type_size xs)
+    through_each : (xs : List X) (at : ℕ) → EachAt P size_of xs at → Through at (at + sizes_of size_of xs)
     unfolding EachAt sizes_of
     through_each [] at s hs m = let q : at + 0 ≡ at = omega arith in rw q at m
     through_each (x ∷ xs) at s hs m =
-        let q : at + (type_size x + sizes_of type_size xs) ≡ at + type_size x + sizes_of type_size xs = omega arith in
-        one x at s.0 hs (through_each xs (at + type_size x) s.1 hs (rw q at m))
+        let q : at + (size_of x + sizes_of size_of xs) ≡ at + size_of x + sizes_of size_of xs = omega arith in
+        one x at s.0 hs (through_each xs (at + size_of x) s.1 hs (rw q at m))
 
     -- a list record with its parts has none
-    through_list : (xs : List X) (at : ℕ) → ListAt (records g) P type_size xs at → Through at (at + list_size type_size xs)
+    through_list : (xs : List X) (at : ℕ) → ListAt (records g) P size_of xs at → Through at (at + list_size size_of xs)
     unfolding mem
     through_list xs at s hs m =
-        let q : at + (1 + sizes_of type_size xs) ≡ at + 1 + sizes_of type_size xs = omega arith in
+        let q : at + (1 + sizes_of size_of xs) ≡ at + 1 + sizes_of size_of xs = omega arith in
         through_one s.head refl hs (through_each xs (at + 1) s.items hs (rw q at m))
 
   -- a port has none
@@ -202,21 +202,21 @@ module _ {ks ws : List ℕ} (g : Model ks ws) where
       met {h = a_node n} (s, h.0, h.1) (through_ports n.inputs (at + 1) s.inputs hs o)
 
   -- a list whose every part is a head
-  module _ {X : Type 0} (P : X → ℕ → Type 0) (Q : X → Type 0) (type_size : X → ℕ) (f : X → Head)
-      (one : (x : X) (at : ℕ) (hs : List Head) → P x at → Q x → Meets g (at + type_size x) hs → Meets g at (f x ∷ hs)) where
+  module _ {X : Type 0} (P : X → ℕ → Type 0) (Q : X → Type 0) (size_of : X → ℕ) (f : X → Head)
+      (one : (x : X) (at : ℕ) (hs : List Head) → P x at → Q x → Meets g (at + size_of x) hs → Meets g at (f x ∷ hs)) where
     -- parts that are heads are met one after another
-    meet_each : (xs : List X) (at : ℕ) (hs : List Head) → EachAt P type_size xs at → Each Q xs → Meets g (at + sizes_of type_size xs) hs → Meets g at (map f xs ++ hs)
+    meet_each : (xs : List X) (at : ℕ) (hs : List Head) → EachAt P size_of xs at → Each Q xs → Meets g (at + sizes_of size_of xs) hs → Meets g at (map f xs ++ hs)
     unfolding EachAt sizes_of
     meet_each [] at hs s h m = let q : at + 0 ≡ at = omega arith in rw q at m
     meet_each (x ∷ xs) at hs s h m =
-        let q : at + (type_size x + sizes_of type_size xs) ≡ at + type_size x + sizes_of type_size xs = omega arith in
-        one x at (map f xs ++ hs) s.0 h.0 (meet_each xs (at + type_size x) hs s.1 h.1 (rw q at m))
+        let q : at + (size_of x + sizes_of size_of xs) ≡ at + size_of x + sizes_of size_of xs = omega arith in
+        one x at (map f xs ++ hs) s.0 h.0 (meet_each xs (at + size_of x) hs s.1 h.1 (rw q at m))
 
     -- so are those behind a list record
-    meet_list : (xs : List X) (at : ℕ) (hs : List Head) → ListAt (records g) P type_size xs at → Each Q xs → Meets g (at + list_size type_size xs) hs → Meets g at (map f xs ++ hs)
+    meet_list : (xs : List X) (at : ℕ) (hs : List Head) → ListAt (records g) P size_of xs at → Each Q xs → Meets g (at + list_size size_of xs) hs → Meets g at (map f xs ++ hs)
     unfolding mem
     meet_list xs at hs s h m =
-        let q : at + (1 + sizes_of type_size xs) ≡ at + 1 + sizes_of type_size xs = omega arith in
+        let q : at + (1 + sizes_of size_of xs) ≡ at + 1 + sizes_of size_of xs = omega arith in
         through_one s.head refl (map f xs ++ hs) (meet_each xs (at + 1) hs s.items h (rw q at m))
 
   -- ---- packages and the project
