@@ -85,8 +85,8 @@ enum wuroike_answer {
  * The lines may be declared as wuroike_line[n] and lent as &line[0].code with 6 * n words.
  *
  * Stack: proofs don't speak of it, so these are measured peaks of the call, in bytes (docs/PERFORMANCE.md). 60 levels of expression, the
- * deepest accepted: 983,720 (a fold with a seed), 917,640 (a fold without), 565,640 (if), less for all else. 4,096 nested records, which
- * are refused once all are read: 720,184. A path of 512 names: 111,696. A clean model: 64,856. Give a thread 1,200,000.
+ * deepest accepted: 1,129,128 (a fold with a seed), 1,063,992 (a fold without), 560,232 (if), less for all else. 4,096 nested records,
+ * which are refused once all are read: 523,756. A path of 512 names: 79,808. A clean model: 65,096. Give a thread 1,200,000.
  * Static memory: none is written.
  */
 uint64_t wuroike_check(const uint8_t *kinds, size_t kinds_length, const uint64_t *words, size_t words_length, const uint8_t *text,
