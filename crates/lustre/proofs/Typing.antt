@@ -9,7 +9,7 @@ use Rattle.lustre.specs.Expr.{Expr, Map, Fold, Not, Neg, And, Or, Xor, Implies, 
 use Rattle.lustre.specs.Expr.{BitAnd, BitOr, BitXor, Shl, Shr, const, float, char, unary, binary, ite, pre, arrow, index, tuple, array, cast, []ᵉ, ◌∷ᵉ◌, []ⁱ}
 use Rattle.lustre.specs.Computes.{computes}
 use Rattle.lustre.proofs.Models.{v, call', field', struct', init', when', merge', iterate', iterate_from', num, minus, yes}
-use Rattle.lustre.proofs.Models.{E◌at◌, E◌at◌on◌, E◌eq◌, Named', Small, Pair, Point, Spot, Colour, operator, function, other_type, Seen, ◌gives◌}
+use Rattle.lustre.proofs.Models.{E◌at◌, E◌at◌on◌, E◌eq◌, Named', Small, Pair, Point, Colour, operator, function, other_type, Seen, ◌gives◌}
 
 -- an unknown name, whose E0080 shows that it is typed, and where
 abbrev lost : Expr
