@@ -3,17 +3,16 @@
 // fit its buffers.
 #![tactic(auto)]
 
-use cases::{little, print_part, read_part};
+use cases::{LINES, Stop, read_part, read_size};
+use lustre::Line;
 use std::io;
 use std::io::Read;
 
 // Room for a file of a few bytes more than any that is not refusal 1.
 const FILE: usize = 60000;
 
-// The most work words and lines that a model is lent.
+// The most work words that a model is lent.
 const WORK: usize = 65536;
-
-const LINES: usize = 1024;
 
 // Room for what is printed: a header of at most 57 bytes and 1,024 lines of at most 171.
 const OUT: usize = 175161;
@@ -21,74 +20,43 @@ const OUT: usize = 175161;
 // The most models that are read.
 const MOST: u64 = 100000000;
 
-// Makes the call on a file with this work memory and room for lines lent, and prints what is said; false where it does not fit.
-fn print_answer(
-    rt: &impl Print,
-    file: &[u8],
-    work: &mut [u64],
-    room: usize,
-    out: &mut [u8],
-) -> io::Result<bool> {
-    let r = response::answer_to(file, work, room);
-    let n = response::render(out, format::text_in(file), r);
-    if !print_part(rt, out, n)? {
-        return Ok(false);
-    }
+// Memory for the models, one after the other.
+#[derive(Drop)]
+struct Buffers {
+    file: [u8; FILE],
+    work: [u64; WORK],
+    lines: [Line; LINES],
+    out: [u8; OUT],
+}
+
+// Reads the next model and prints what is said of it.
+fn model(reader: &mut impl Read, rt: &impl Print, buffers: &mut Buffers) -> Result<(), Stop> {
+    let work_count = read_size(reader)?;
+    let room = read_size(reader)?;
+    let size = read_size(reader)?;
+    let file = read_part(reader, &mut buffers.file, size)?;
+    let work = buffers.work.get_mut(..work_count).ok_or(Stop::Ended)?;
+    let lines = buffers.lines.get_mut(..room).ok_or(Stop::Ended)?;
+    let answer = response::answer_to(file, work, lines);
+    let n = response::render(&mut buffers.out, format::text_in(file), answer, lines);
+    rt.write_all(buffers.out.get(..n).ok_or(Stop::Ended)?)?;
     rt.write_all(b"\n")?;
-    Ok(true)
+    Ok(())
 }
 
-// Reads the next model and prints what is said of it; false where there is none or it does not fit.
-fn model(
-    reader: &mut impl Read,
-    rt: &impl Print,
-    file: &mut [u8],
-    work: &mut [u64],
-    out: &mut [u8],
-) -> io::Result<bool> {
-    let mut head = [0u8; 12];
-    if !read_part(reader, &mut head, 12)? {
-        return Ok(false);
-    }
-    let work_count = little(&head, 0, 4) as usize;
-    let room = little(&head, 4, 4) as usize;
-    let size = little(&head, 8, 4) as usize;
-    if !read_part(reader, file, size)? {
-        return Ok(false);
-    }
-    if size > file.len() {
-        return Ok(false);
-    }
-    if work_count > work.len() {
-        return Ok(false);
-    }
-    if room > LINES {
-        return Ok(false);
-    }
-    print_answer(rt, &file[..size], &mut work[..work_count], room, out)
-}
-
-// Reads models until there are no more.
-fn run(
-    reader: &mut impl Read,
-    rt: &impl Print,
-    file: &mut [u8],
-    work: &mut [u64],
-    out: &mut [u8],
-) -> io::Result<()> {
-    let mut left = MOST;
-    while left > 0 {
-        if !model(reader, rt, file, work, out)? {
-            return Ok(());
-        }
-        left -= 1;
+fn run(reader: &mut impl Read, rt: &impl Print, buffers: &mut Buffers) -> Result<(), Stop> {
+    for _ in 0..MOST {
+        model(reader, rt, buffers)?;
     }
     Ok(())
 }
 
 fn main(rt: HostRuntime) -> io::Result<()> {
-    let mut file = [0u8; FILE];
-    let mut work = [0u64; WORK];
-    let mut out = [0u8; OUT];
-    run(&mut rt.reader(), &rt, &mut file, &mut work, &mut out)
+    let mut buffers = Buffers {
+        file: [0; FILE],
+        work: [0; WORK],
+        lines: [Line::default(); LINES],
+        out: [0; OUT],
+    };
+    cases::finish(run(&mut rt.reader(), &rt, &mut buffers))
 }

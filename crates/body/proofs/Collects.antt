@@ -5,9 +5,10 @@ use Prim.Native.Nat.{ℕ, ◌+◌, ◌-◌, ◌<◌}
 use mathlib.Core.Path.{◌≡◌, refl, sym, subst, ◌∙◌}
 use mathlib.Core.Bool.{true, ◌||◌, or_assoc, or-false}
 use mathlib.Core.Logic.{⊎_elim}
+use native.Mathlib.Omega.{arith}
 use mathlib.Core.List.{List, [], ◌∷◌, ◌++◌}
 use lib.Dec.{eqb}
-use lib.ListN.{length, get_or}
+use lib.ListN.{get_or}
 use borrow.Author.Tests.{eqb-true, eqb-false}
 use Rattle.lustre.specs.Name.{Name, ◌is◌, ◌among◌, mem}
 use Rattle.lustre.specs.Expr.{Expr, size, pre}
@@ -111,11 +112,20 @@ Skips ks ws at r = (g : There ks ws at) → r ≡ at + size g.e
 
 -- the loop's invariant
 pub record Collecting (ks ws : List ℕ) (at : ℕ) (row₀ : List ℕ) (next left : ℕ) (row : List ℕ) : Type 0 where
-  pub long : length row ≡ length row₀
+  pub turn : Turn ks ws next left
+  pub small : 0 < left → reading_kind (get_or ks next 0) ≡ true → get_or ws next 0 < 512
   pub rest : (g : There ks ws at) → Unread (source ks ws g.text) g.e at row₀ next left row
 
-pub collecting_start : {ks ws : List ℕ} {at : ℕ} {row : List ℕ} → Collecting ks ws at row at 1 row
-collecting_start {at} {row} = record { long = refl; rest = λ g. unread_start _ g.e at row g.stands }
+module _ {ks ws : List ℕ} {at : ℕ} (g₀ : There ks ws at) {row₀ : List ℕ} where
+  collecting_at : {next left : ℕ} {row : List ℕ} → ((g : There ks ws at) → Unread (source ks ws g.text) g.e at row₀ next left row) → Collecting ks ws at row₀ next left row
+  collecting_at r = record {
+    turn = turn _ (r g₀).owing (expr_end _ g₀.e at g₀.stands);
+    small = λ z. unread_small _ g₀.e at row₀ (r g₀) (λ e. omega (arith, z));
+    rest = r;
+  }
+
+  pub collecting_start : Collecting ks ws at row₀ at 1 row₀
+  collecting_start = collecting_at (λ g. unread_start _ g.e at row₀ g.stands)
 
 module _ {ks ws : List ℕ} {at : ℕ} {row₀ : List ℕ} {next left : ℕ} {row : List ℕ} (w : Collecting ks ws at row₀ next left row) where
   -- where nothing is owed the names are collected
@@ -123,18 +133,11 @@ module _ {ks ws : List ℕ} {at : ℕ} {row₀ : List ℕ} {next left : ℕ} {ro
   collecting_done z g = let d = unread_done _ g.e at row₀ (w.rest g) z in record { next = d.0; names = d.1 }
 
   module _ (z : left ≡ 0 → ⊥) (g₀ : There ks ws at) where
-    -- there is a record here, what it owes fits, and its word is a name's number if it reads one
-    pub collecting_turn : Turn ks ws next left
-    collecting_turn = turn _ (w.rest g₀).owing (expr_end _ g₀.e at g₀.stands) z
-
-    pub collecting_small : reading_kind (get_or ks next 0) ≡ true → get_or ws next 0 < 512
-    collecting_small = unread_small _ g₀.e at row₀ (w.rest g₀) z
-
     -- a record that is no `pre` is passed
     pub collecting_pass : {row' : List ℕ} → (get_or ks next 0 ≡ 68 → ⊥)
-        → ((text : ℕ → Name) → WithNames text (if reading_kind (get_or ks next 0) then text (get_or ws next 0) ∷ [] else []) row row') → length row' ≡ length row
+        → ((text : ℕ → Name) → WithNames text (if reading_kind (get_or ks next 0) then text (get_or ws next 0) ∷ [] else []) row row')
         → Collecting ks ws at row₀ (next + 1) (left - 1 + owes (get_or ks next 0) (get_or ws next 0)) row'
-    collecting_pass h c k = record { long = k ∙ w.long; rest = λ d. unread_pass _ d.e at row₀ (w.rest d) z h (c d.text) }
+    collecting_pass h c = collecting_at g₀ (λ d. unread_pass _ d.e at row₀ (w.rest d) z h (c d.text))
 
     -- at a `pre` the walk goes on behind its argument
     module _ (h : get_or ks next 0 ≡ 68) where
@@ -145,7 +148,4 @@ module _ {ks ws : List ℕ} {at : ℕ} {row₀ : List ℕ} {next left : ℕ} {ro
       pre_argument = let x = pre_in g₀ in record { text = g₀.text; e = x.a; stands = x.a_at }
 
       pub after_pre : {r : ℕ} → Skips ks ws (next + 1) r → Collecting ks ws at row₀ r (left - 1) row
-      after_pre c = record {
-        long = w.long;
-        rest = λ g. let x = pre_in g in rw (c (record { text = g.text; e = x.a; stands = x.a_at })) x.after;
-      }
+      after_pre c = collecting_at g₀ (λ g. let x = pre_in g in rw (c (record { text = g.text; e = x.a; stands = x.a_at })) x.after)

@@ -5,3 +5,4 @@ pub mod Writing
 pub mod Scans
 pub mod Pres
 pub mod Collects
+pub mod Sides

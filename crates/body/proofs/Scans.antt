@@ -1,17 +1,24 @@
 -- A scan of all records of a right-hand side shows each sub-expression once, in order: the first temporal operator, and each iterator.
 -- Assumes nothing.
 use Rattle.std.specs.Prelude.{if◌then◌else◌}
-use Prim.Native.Nat.{ℕ, ◌+◌, ◌≤◌, ◌<◌}
+use Prim.Native.Nat.{ℕ, zero, suc, ◌+◌, ◌≤◌, ◌<◌}
 use native.Mathlib.Omega.{arith}
-use mathlib.Core.Path.{◌≡◌, refl, ap}
-use mathlib.Core.Bool.{true, false, ◌||◌}
+use mathlib.Core.Path.{◌≡◌, refl, ap, sym, ◌∙◌}
+use mathlib.Core.Bool.{Bool, true, false, ◌||◌}
 use mathlib.Core.List.{List, [], ◌∷◌, ◌++◌, tail}
-use lib.ListN.{length}
+use lib.ListN.{length, length-drop, get_or, take, drop}
+use Rattle.std.proofs.lemmas.List.FromFn.{length-enumerate_from, get_or-enumerate_from}
+use lib.Seq.{drop-cons}
+use Rattle.std.proofs.lemmas.List.{get_or-drop, get_or_append_left, get_or_default}
+use native.Mathlib.Numerals.{add-one}
+use native.Mathlib.Nat.{zero-add}
+use Rattle.std.specs.List.{list_any, enumerate_from}
 use Rattle.lustre.specs.Name.{Name}
 use Rattle.lustre.specs.Expr.{Expr, Form, integer, temporal, iterator, calling, other, form, any_temporal, contains_temporal, size}
 use Rattle.lustre.specs.Placement.{iterators, nested}
 use Rattle.lines.specs.Lines.{Noted}
 use Rattle.lines.specs.declared.Spot.{Spot}
+use Rattle.lines.specs.declared.Lines.{Lines}
 use Rattle.standing.specs.Standing.{Source, ExprAt}
 use Rattle.standing.proofs.Owed.{Part, of_type, of_expr, of_list, of_values, of_value, in_expr, in_part, kind, inside, next}
 use Rattle.body.specs.Body.{notes, temporal_kind, iterator_kind}
@@ -95,34 +102,51 @@ module _ (S : Source) (e : Expr) where
     unfolding any_temporal
     unseen_done h = (walk_done S visit_part Any w.1 (walk_all S visit_part Any w.1 h)).0
 
+  -- the records from a position up to the end have a temporal operator exactly if the right-hand side has one
+  pub unseen_any : (n : ℕ) {end at : ℕ} → at + n ≡ end → Unseen end at → list_any temporal_kind (take n (drop at S.ks)) ≡ contains_temporal e
+  unseen_any zero q w = unseen_done w (omega arith)
+  unseen_any (suc n) {end} {at} q w =
+      let l : at < end = omega arith in
+      rw (drop-cons S.ks at 0 (unseen_in w l), ← add-one at) (go (λ t. unseen_any n (omega arith) (unseen_pass w l t)) (temporal_kind (kind S at)) refl)
+    where
+      go : (temporal_kind (kind S at) ≡ false → list_any temporal_kind (take n (drop (at + 1) S.ks)) ≡ contains_temporal e) →
+          (b : Bool) → temporal_kind (kind S at) ≡ b → (b || list_any temporal_kind (take n (drop (at + 1) S.ks))) ≡ contains_temporal e
+      go ih true t = unseen_found w (omega arith) t
+      go ih false t = ih t
+
 -- the iterators inside a right-hand side are those behind its first record
 nested_inside : (e : Expr) → nested e ≡ iterators (told visit_part 1 (in_expr e))
 unfolding visit_part nested
 nested_inside e = ap (λ (l : List (ℕ × Expr)). iterators (tail l)) (visit_opens (of_expr e) 0)
 
-module _ (S : Source) (e : Expr) (num : Name → ℕ) (q : Spot) (o₀ : List ℕ) (n₀ : ℕ) where
+module _ (S : Source) (e : Expr) (num : Name → ℕ) (q : Spot) (l₀ : Lines) where
   -- the iterators from a position on are still to be noted
-  abbrev Nested : List ℕ → ℕ → List (ℕ × Expr) → Type 0
-  Nested o n l = Still num q 146 (nested e) o₀ n₀ o n (iterators l)
+  abbrev Nested : Lines → List (ℕ × Expr) → Type 0
+  Nested l xs = Still num q 146 (nested e) l₀ l (iterators xs)
 
-  abbrev pub Unplaced : ℕ → ℕ → List ℕ → ℕ → Type 0
-  Unplaced end at o n = (left : ℕ) × Walk S visit_part (Nested o n) at end left
+  abbrev pub Unplaced : ℕ → ℕ → Lines → Type 0
+  Unplaced end at l = (left : ℕ) × Walk S visit_part (Nested l) at end left
 
-  pub unplaced_start : {end : ℕ} → ExprAt S e 0 → size e ≡ end → Unplaced end 1 o₀ n₀
+  pub unplaced_start : {end : ℕ} → ExprAt S e 0 → size e ≡ end → Unplaced end 1 l₀
   unplaced_start s h =
       let z : 0 + size e ≡ size e = omega arith in
-      (_, record { ps = in_expr e; owing = rw (z, h) at (inside S e 0 s); rest = rw (← nested_inside e) (still_start num q 146 (nested e) o₀ n₀) })
+      (_, record { ps = in_expr e; owing = rw (z, h) at (inside S e 0 s); rest = rw (← nested_inside e) (still_start num q 146 (nested e) l₀) })
 
-  module _ {end at : ℕ} {o : List ℕ} {n : ℕ} (w : Unplaced end at o n) where
-    pub unplaced_in : at < end → at < length S.ks
-    unplaced_in h = (next S w.1.owing (walk_more S visit_part (Nested o n) w.1 h)).head.in_kinds
-
-    pub unplaced_pass : {o' : List ℕ} {m : ℕ} → at < end → Noted num q (notes 146 (if iterator_kind (kind S at) then at ∷ [] else [])) o n m o' → Unplaced end (at + 1) o' m
+  module _ {end at : ℕ} {l : Lines} (w : Unplaced end at l) where
+    pub unplaced_pass : {l' : Lines} → at < end → Noted num q (notes 146 (if iterator_kind (kind S at) then at ∷ [] else [])) l l' → Unplaced end (at + 1) l'
     unplaced_pass h d =
-        let f = walk_first S visit_part (Nested o n) w.1 (walk_more S visit_part (Nested o n) w.1 h) in
+        let f = walk_first S visit_part (Nested l) w.1 (walk_more S visit_part (Nested l) w.1 h) in
         let r = rw (told_open visit_part at f.p f.ps (shown at f.p) (visit_opens f.p at), iterators_shown at f.p, ← f.says.iterator) at f.rest in
-        (_, record { ps = in_part f.p ++ f.ps; owing = f.onward; rest = still_step num q 146 (nested e) o₀ n₀ (if iterator_kind (kind S at) then at ∷ [] else []) (iterators (told visit_part (at + 1) (in_part f.p ++ f.ps))) r d })
+        (_, record { ps = in_part f.p ++ f.ps; owing = f.onward; rest = still_step num q 146 (nested e) l₀ (if iterator_kind (kind S at) then at ∷ [] else []) (iterators (told visit_part (at + 1) (in_part f.p ++ f.ps))) r d })
 
-    pub unplaced_done : end ≤ at → Noted num q (notes 146 (nested e)) o₀ n₀ n o
+    pub unplaced_done : end ≤ at → Noted num q (notes 146 (nested e)) l₀ l
     unfolding iterators
-    unplaced_done h = still_done num q 146 (nested e) o₀ n₀ (walk_done S visit_part (Nested o n) w.1 (walk_all S visit_part (Nested o n) w.1 h)).0
+    unplaced_done h = still_done num q 146 (nested e) l₀ (walk_done S visit_part (Nested l) w.1 (walk_all S visit_part (Nested l) w.1 h)).0
+
+-- an item of the kinds with their positions, but for the first
+pub scan_turn : (ks after : List ℕ) (i step k : ℕ) → i < length (drop 1 (enumerate_from 0 ks)) → (step, k) ≡ get_or (drop 1 (enumerate_from 0 ks)) i (step, k) →
+    (1 + i < length ks) × (step ≡ 1 + i) × (k ≡ get_or (ks ++ after) (1 + i) 0)
+scan_turn ks after i step k h e =
+    let l : 1 + i < length ks = omega (arith, simp (length-drop, length-enumerate_from) at h) in
+    let q : (step, k) ≡ (0 + (1 + i), get_or ks (1 + i) k) = e ∙ get_or-drop 1 (enumerate_from 0 ks) i (step, k) ∙ get_or-enumerate_from 0 ks (1 + i) (step, k) l in
+    (l, rw zero-add at (ap (λ p. p.0) q), ap (λ p. p.1) q ∙ get_or_default ks (1 + i) k 0 l ∙ sym (get_or_append_left ks after 0 (1 + i) l))

@@ -1,6 +1,6 @@
 -- What the functions on a right-hand side ask, and what they answer, in lustre's definitions.
 -- Assumes nothing: these are definitions.
-use Rattle.std.specs.Prelude.{ℕ, ◌+◌, ◌<◌, ◌≡◌, Bool, ◌||◌, ◌&&◌, List, map, eqb, leb}
+use Rattle.std.specs.Prelude.{ℕ, ◌+◌, ◌<◌, ◌≡◌, Bool, ◌||◌, ◌&&◌, List, ◌++◌, map, length, eqb, leb}
 use Rattle.lustre.specs.Name.{Name, ◌among◌}
 use Rattle.lustre.specs.Expr.{Expr, size}
 use Rattle.lustre.specs.Init.{pres}
@@ -8,9 +8,9 @@ use Rattle.lustre.specs.Deps.{reads}
 use Rattle.lustre.specs.Line.{Note, plain}
 use Rattle.lines.specs.Lines.{Noted}
 use Rattle.lines.specs.declared.Spot.{Spot}
+use Rattle.lines.specs.declared.Lines.{Lines}
 use Rattle.loops.specs.Rows.{has}
 use Rattle.standing.specs.Standing.{source, ExprAt}
-use Rattle.body.specs.declared.Passed.{Passed}
 
 -- the first `end` records are a right-hand side
 pub record Whole (ks : List ℕ) (end : ℕ) : Type 0 where
@@ -19,6 +19,11 @@ pub record Whole (ks : List ℕ) (end : ℕ) : Type 0 where
   pub e : Expr
   pub stands : ExprAt (source ks ws text) e 0
   pub ends : size e ≡ end
+
+-- the kinds of a right-hand side, whatever records come behind them
+pub record Side (ks : List ℕ) : Type 0 where
+  pub after : List ℕ
+  pub whole : Whole (ks ++ after) (length ks)
 
 -- a note of one code at each of some steps
 abbrev pub notes : ℕ → List ℕ → List Note
@@ -36,9 +41,9 @@ abbrev pub reading_kind : ℕ → Bool
 reading_kind k = eqb k 44 || (leb 77 k && leb k 79)
 
 -- where e stands at a position: the notes of its `pre`s are written, and what comes behind it is next
-pub record Initialized (num : Name → ℕ) (q : Spot) (e : Expr) (at : ℕ) (under : Bool) (o : List ℕ) (n : ℕ) (r : Passed) (o' : List ℕ) : Type 0 where
-  pub next : r.next ≡ at + size e
-  pub noted : Noted num q (notes 70 (pres at e under)) o n r.n o'
+pub record Initialized (num : Name → ℕ) (q : Spot) (e : Expr) (at : ℕ) (under : Bool) (l : Lines) (r : ℕ) (l' : Lines) : Type 0 where
+  pub next : r ≡ at + size e
+  pub noted : Noted num q (notes 70 (pres at e under)) l l'
 
 -- no other number below 512 has the text of n
 abbrev pub Alone : (ℕ → Name) → ℕ → Type 0

@@ -1,88 +1,120 @@
-// What the test programs share: numbers out of bytes, reading and printing a part of a buffer, the label of a case, lines compared with
-// those that are due, and buffers that are filled with marks, none of them zero, so that what a call leaves alone is seen. No function has a
-// `requires`.
+// What the test programs share: reading a stream of cases, of which each ends the stream that does not fit its buffers, the label of a case,
+// and buffers that are filled with marks, none of them zero, so that what a call leaves alone is seen. No function has a `requires`.
 #![tactic(auto)]
 
-ghost use Rattle.std.specs.Prelude.{◌<◌};
+ghost use Rattle.std.specs.Prelude.{◌≡◌, ℕ, ◌-◌, List, length, drop, replicate, IfOk};
+ghost use Rattle.std.specs.Int.{w32, w64, from_le_bytes};
+ghost use Rattle.std.specs.Io.KnownBytes.{Consumes};
+ghost use Rattle.std.specs.IoError.{error_kind};
+ghost use Rattle.cases.specs.Lines.{blank};
+ghost use Rattle.cases.specs.Stop.{stop_of, finished};
 
 use lustre::Line;
 use std::io;
 use std::io::{ErrorKind, Read};
 
 // The mark at place 0; those behind it are larger.
-const MARK: u64 = 6148914691236517205;
+const MARK: u64 = 0x5555555555555555;
 
 // The lines of a report by value.
-const LINES: usize = 1024;
+pub const LINES: usize = 1024;
 
-// A byte as a number.
-fn wide(b: u8) -> u64
-    ensures { result < 256 }
+// Why no case is read: the input ends or the next case does not fit its buffers, or reading or printing failed.
+#[derive(Drop)]
+pub enum Stop {
+    Ended,
+    Failed(io::Error),
+}
+
+impl From<io::Error> for Stop {
+    ghost from_gives = { λ e stop. stop ≡ stop_of (error_kind e) e };
+
+    fn from(e: io::Error) -> Stop {
+        match e.kind() {
+            ErrorKind::UnexpectedEof => Stop::Ended,
+            _ => Stop::Failed(e),
+        }
+    }
+}
+
+// The end of a stream of cases is no failure.
+pub fn finish(outcome: Result<(), Stop>) -> io::Result<()>
+    ensures { result ≡ finished outcome }
 {
-    b as u64
+    match outcome {
+        Ok(()) | Err(Stop::Ended) => Ok(()),
+        Err(Stop::Failed(e)) => Err(e),
+    }
 }
 
-// The byte at a distance from a place, 0 past the end.
-fn byte_at(bytes: &[u8], at: usize, i: usize) -> u64
-    ensures { result < 256 }
+// Reads n bytes to the start of a buffer.
+pub fn read_part<'a, R: Read>(
+    reader: &mut R,
+    buffer: &'a mut [u8],
+    n: usize,
+) -> Result<&'a [u8], Stop>
+    ensures { IfOk result (λ part. Consumes (R.remaining reader.old) (R.remaining reader.new) part.now × (length part.now ≡ n)) }
 {
-    if at >= bytes.len() {
-        return 0;
-    }
-    if i >= bytes.len() - at {
-        return 0;
-    }
-    wide(bytes[at + i])
+    let part = buffer.get_mut(..n).ok_or(Stop::Ended)?;
+    reader.read_exact(part)?;
+    Ok(part)
 }
 
-// The number of n bytes at a place, low byte first.
-pub fn little(bytes: &[u8], at: usize, n: usize) -> u64 {
-    let mut w: u64 = 0;
-    let mut left = n;
-    while left > 0 {
-        left -= 1;
-        w = w % 72057594037927936 * 256 + byte_at(bytes, at, left);
-    }
-    w
+// Reads a number of four bytes, low byte first.
+pub fn read_size<R: Read>(reader: &mut R) -> Result<usize, Stop>
+    ensures { IfOk result (λ n. (bytes : List ℕ) × Consumes (R.remaining reader.old) (R.remaining reader.new) bytes × (length bytes ≡ 4)
+        × (n ≡ from_le_bytes w32 bytes)) }
+{
+    let mut bytes = [0u8; 4];
+    reader.read_exact(&mut bytes)?;
+    Ok(u32::from_le_bytes(bytes) as usize)
 }
 
-// Reads n bytes to the start of a buffer; false where they don't fit or the input ends.
-pub fn read_part(reader: &mut impl Read, buffer: &mut [u8], n: usize) -> io::Result<bool> {
-    if n > buffer.len() {
-        return Ok(false);
-    }
-    match reader.read_exact(&mut buffer[..n]) {
-        Ok(()) => Ok(true),
-        Err(e) if e.kind() == ErrorKind::UnexpectedEof => Ok(false),
-        Err(e) => Err(e),
-    }
+// Reads a number of eight bytes, low byte first.
+pub fn read_word<R: Read>(reader: &mut R) -> Result<u64, Stop>
+    ensures { IfOk result (λ n. (bytes : List ℕ) × Consumes (R.remaining reader.old) (R.remaining reader.new) bytes × (length bytes ≡ 8)
+        × (n ≡ from_le_bytes w64 bytes)) }
+{
+    let mut bytes = [0u8; 8];
+    reader.read_exact(&mut bytes)?;
+    Ok(u64::from_le_bytes(bytes))
 }
 
-// Prints the first n bytes of a buffer; false where there are fewer.
-pub fn print_part(rt: &impl Print, buffer: &[u8], n: usize) -> io::Result<bool> {
-    if n > buffer.len() {
-        return Ok(false);
-    }
-    rt.write_all(&buffer[..n])?;
-    Ok(true)
+// Reads a line, eight bytes a field.
+fn read_line<R: Read>(reader: &mut R) -> Result<Line, Stop> {
+    Ok(Line {
+        code: read_word(reader)?,
+        place: read_word(reader)?,
+        number: read_word(reader)?,
+        equation: read_word(reader)?,
+        step: read_word(reader)?,
+        name: read_word(reader)?,
+    })
 }
 
-// Reads the label of the next case, its length before it, and prints it; false where there is none.
-pub fn label(reader: &mut impl Read, rt: &impl Print) -> io::Result<bool> {
+// Reads n lines; those behind them are blank.
+pub fn read_lines<R: Read>(reader: &mut R, n: usize) -> Result<[Line; LINES], Stop>
+    ensures { IfOk result (λ lines. drop n lines ≡ replicate (1024 - n) blank) }
+{
+    let mut lines = [Line::default(); LINES];
+    if n > LINES {
+        return Err(Stop::Ended);
+    }
+    for line in lines[..n].iter_mut() {
+        *line = read_line(reader)?;
+    }
+    Ok(lines)
+}
+
+// Reads the label of the next case, its length before it, and prints it.
+pub fn label(reader: &mut impl Read, rt: &impl Print) -> Result<(), Stop> {
     let mut size = [0u8; 1];
-    if !read_part(reader, &mut size, 1)? {
-        return Ok(false);
-    }
-    let n = little(&size, 0, 1) as usize;
-    let mut text = [0u8; 256];
-    if !read_part(reader, &mut text, n)? {
-        return Ok(false);
-    }
-    if !print_part(rt, &text, n)? {
-        return Ok(false);
-    }
+    reader.read_exact(&mut size)?;
+    let mut text = [0u8; 255];
+    let text = read_part(reader, &mut text, usize::from(size[0]))?;
+    rt.write_all(text)?;
     rt.write_all(b": ")?;
-    Ok(true)
+    Ok(())
 }
 
 // The mark of a place.
@@ -92,125 +124,17 @@ fn mark(i: usize) -> u64 {
 
 // Fills a buffer with marks.
 pub fn fill(words: &mut [u64]) {
-    let mut i = 0;
-    while i < words.len() {
-        words[i] = mark(i);
-        i += 1;
+    for (i, word) in words.iter_mut().enumerate() {
+        *word = mark(i);
     }
 }
 
-// Says whether a buffer has its marks from a place on.
-pub fn is_filled(words: &[u64], from: usize) -> bool {
-    let mut i = from;
-    while i < words.len() {
-        if words[i] != mark(i) {
-            return false;
-        }
-        i += 1;
-    }
-    true
+// Says whether a buffer has its marks.
+pub fn is_filled(words: &[u64]) -> bool {
+    words.iter().enumerate().all(|(i, word)| *word == mark(i))
 }
 
 // Says whether every word is zero.
 pub fn is_zero(words: &[u64]) -> bool {
-    let mut i = 0;
-    while i < words.len() {
-        if words[i] != 0 {
-            return false;
-        }
-        i += 1;
-    }
-    true
-}
-
-// Says whether a line is that of the first 48 of these bytes, eight bytes a field.
-fn is_line(l: Line, bytes: &[u8]) -> bool {
-    if l.code != little(bytes, 0, 8) {
-        return false;
-    }
-    if l.place != little(bytes, 8, 8) {
-        return false;
-    }
-    if l.number != little(bytes, 16, 8) {
-        return false;
-    }
-    if l.equation != little(bytes, 24, 8) {
-        return false;
-    }
-    if l.step != little(bytes, 32, 8) {
-        return false;
-    }
-    l.name == little(bytes, 40, 8)
-}
-
-// Says whether all fields of a line are 0.
-fn is_blank(l: Line) -> bool {
-    if l.code != 0 {
-        return false;
-    }
-    if l.place != 0 {
-        return false;
-    }
-    if l.number != 0 {
-        return false;
-    }
-    if l.equation != 0 {
-        return false;
-    }
-    if l.step != 0 {
-        return false;
-    }
-    l.name == 0
-}
-
-// Says whether the first n lines are those of these bytes.
-fn are_lines(lines: [Line; LINES], n: usize, bytes: &[u8]) -> bool {
-    if n > LINES {
-        return false;
-    }
-    if n > bytes.len() / 48 {
-        return false;
-    }
-    let mut i = 0;
-    while i < n {
-        let at = 48 * i;
-        if !is_line(lines[i], &bytes[at..]) {
-            return false;
-        }
-        i += 1;
-    }
-    true
-}
-
-// Says whether the first n lines are those of these bytes, and the others blank.
-pub fn same_lines(lines: [Line; LINES], n: usize, bytes: &[u8]) -> bool {
-    if !are_lines(lines, n, bytes) {
-        return false;
-    }
-    let mut i = n;
-    while i < LINES {
-        if !is_blank(lines[i]) {
-            return false;
-        }
-        i += 1;
-    }
-    true
-}
-
-// Says whether the first n bytes of a buffer are a text, and all of it.
-pub fn same_bytes(buffer: &[u8], n: usize, text: &[u8]) -> bool {
-    if n > buffer.len() {
-        return false;
-    }
-    if n != text.len() {
-        return false;
-    }
-    let mut i = 0;
-    while i < n {
-        if buffer[i] != text[i] {
-            return false;
-        }
-        i += 1;
-    }
-    true
+    words.iter().all(|word| *word == 0)
 }

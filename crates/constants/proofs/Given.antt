@@ -1,13 +1,14 @@
 -- A constant at a record: its name, its declared type, its value, and what the functions on them ask.
 -- Assumes nothing.
-use Prim.Native.Nat.{ℕ, ◌+◌, ◌-◌, ◌<◌}
+use Prim.Native.Nat.{ℕ, ◌+◌, ◌-◌, ◌≤◌, ◌<◌}
 use native.Mathlib.Omega.{arith}
 use mathlib.Core.Path.{◌≡◌, sym, ◌∙◌, ap, subst}
 use mathlib.Core.Logic.{⊎_elim}
 use mathlib.Core.Bool.{true, false}
 use mathlib.Core.List.{List, ◌∷◌}
-use mathlib.Core.Option.{some}
-use lib.ListN.{length, get_or}
+use lib.ListN.{length, get_or, take, drop, length-take, length-drop}
+use Rattle.std.specs.Prelude.{Some}
+use Rattle.std.proofs.lemmas.List.{take-append-drop}
 use Rattle.lustre.specs.Name.{Name, ◌is◌, ◌among◌}
 use Rattle.lustre.specs.Expr.{size}
 use Rattle.lustre.specs.Project.{skeleton}
@@ -17,34 +18,48 @@ use Rattle.demands.proofs.Orders.{is_test}
 use Rattle.standing.specs.Standing.{source}
 use Rattle.standing.specs.Owed.{There}
 use Rattle.standing.proofs.Inversions.{expr_record}
-use Rattle.standing.proofs.Parts.{part, expr_in}
-use Rattle.body.specs.Body.{Whole}
+use Rattle.standing.proofs.Parts.{part, part_is, expr_in}
+use Rattle.standing.proofs.Sizes.{expr_end}
+use Rattle.body.specs.Body.{Side}
 use Rattle.loops.specs.Rows.{has, Connected}
 use Rattle.types.specs.Value.{Naming, asTy}
 use Rattle.types.specs.Place.{Read}
 use Rattle.types.specs.Scope.{Table}
 use Rattle.types.specs.declared.Typ.{Typ}
-use Rattle.types.specs.declared.Hint.{Hint}
+use Rattle.types.specs.declared.Context.{Context}
 use Rattle.rules.specs.World.{Typed}
-use Rattle.rules.specs.Post.{HintIs}
 use Rattle.rules.proofs.Places.{read_is, read_next}
 use Rattle.infer.specs.Post.{GivenWhole}
 use Rattle.scope.specs.Sets.{Holds}
 use Rattle.scope.specs.Tables.{records}
 use Rattle.scope.proofs.Sets.{holds_add, holds_same}
 use Rattle.scope.proofs.World.{apart, types_targets, world}
-use Rattle.constants.specs.Constants.{ConstantGiven}
+use Rattle.constants.specs.Constants.{ConstantGiven, ConstantOf}
 
 -- ---- an expression in the records
 
 module _ {ks ws : List ℕ} {start : ℕ} (g : There ks ws start) where
-  -- it begins within the records
+  -- it begins and ends within the records
   pub value_kinds : start < length ks
   value_kinds = (expr_record (source ks ws g.text) g.e start g.stands).in_kinds
 
-  -- the expression is the first records of the part from there on
-  abbrev pub value_whole : {next : ℕ} → next ≡ start + size g.e → Whole (part ks start) (next - start)
-  value_whole h = record { ws = part ws start; text = g.text; e = g.e; stands = expr_in ks ws g.text start g.e 0 start (omega arith) g.stands; ends = omega arith }
+  pub value_end : {next : ℕ} → next ≡ start + size g.e → next ≤ length ks
+  value_end h = omega (arith, h, expr_end (source ks ws g.text) g.e start g.stands)
+
+  -- its own kinds
+  abbrev pub value_own : {next : ℕ} → next ≡ start + size g.e → Side (take (next - start) (drop start ks))
+  value_own {next} h =
+      let n = next - start in
+      record {
+        after = drop n (drop start ks);
+        whole = record {
+          ws = part ws start;
+          text = g.text;
+          e = g.e;
+          stands = rw (take-append-drop n (drop start ks), ← part_is ks start) (expr_in ks ws g.text start g.e 0 start (omega arith) g.stands);
+          ends = omega (arith, h, expr_end (source ks ws g.text) g.e start g.stands, length-take n (drop start ks), length-drop start ks);
+        };
+      }
 
 -- ---- a set of names
 
@@ -83,18 +98,6 @@ module _ {ks ws sc : List ℕ} {at : ℕ} (g : ConstantGiven ks ws sc at) where
   abbrev pub value_there : {r : Typ} {next : ℕ} → Read ks ws (at + 1) r next → There ks ws next
   value_there {r} {next} d = record { text = g.model.text; e = g.c.value; stands = rw (read_next declared_type d) g.stands.value }
 
-  -- what inference asks for, with a hint that is the declared type
-  abbrev pub value_given : {r : Typ} {next : ℕ} {h : Hint} → Read ks ws (at + 1) r next → HintIs g.model.text (some (asTy g.model.text r)) r.levels h → GivenWhole ks ws sc next h
-  value_given {r} {next} {h} d k = record {
-    W = world g.model g.declared;
-    few = g.model.few;
-    e = g.c.value;
-    stands = (value_there d).stands;
-    shallow = g.shallow.value;
-    low = omega (arith, k.low, d.few);
-    known = k.known;
-  }
-
   -- the type that was read is the declared one
   pub read_declared : {r : Typ} {next : ℕ} → Read ks ws (at + 1) r next → asTy g.model.text r ≡ g.c.type
   read_declared d = (read_is declared_type d).is
@@ -103,3 +106,11 @@ module _ {ks ws sc : List ℕ} {at : ℕ} (g : ConstantGiven ks ws sc at) where
   pub alias_table : Table g.model.text (context (skeleton g.model.P)).alias ks ws sc
   unfolding context
   alias_table = (types_targets g.declared).1
+
+-- what inference asks for, with a hint that is the declared type
+abbrev pub value_given : {x : Context} {at : ℕ} (g : ConstantOf x at) {r : Typ} {next : ℕ} → Read x.records.kinds.now x.records.words.now (at + 1) r next → GivenWhole x next (Some r)
+value_given g d = record { W = world g.model g.declared; few = g.model.few; e = g.c.value; stands = (value_there g d).stands; shallow = g.shallow.value; known = d.known }
+
+-- its value has no more records than the whole
+pub value_few : {ks ws sc : List ℕ} {at : ℕ} (start : ℕ) (g : ConstantGiven ks ws sc at) → length (part ks start) ≤ 4096
+value_few {ks} start g = rw (part_is ks start) (omega (arith, length-drop start ks, g.model.few))

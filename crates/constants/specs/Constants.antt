@@ -4,6 +4,7 @@ use Rattle.std.specs.Prelude.{ℕ, List, []}
 use Rattle.lustre.specs.Project.{Constant}
 use Rattle.input.specs.Depths.{ShallowConstant}
 use Rattle.standing.specs.Standing.{ConstantAt}
+use Rattle.types.specs.declared.Context.{Context}
 use Rattle.scope.specs.Model.{Model}
 use Rattle.scope.specs.Tables.{records, Declared}
 
@@ -14,3 +15,6 @@ pub record ConstantGiven (ks ws sc : List ℕ) (at : ℕ) : Type 0 where
   pub stands : ConstantAt (records model) c at
   pub shallow : ShallowConstant c
   pub declared : Declared model [] sc
+
+abbrev pub ConstantOf : Context → ℕ → Type 0
+ConstantOf x at = ConstantGiven x.records.kinds.now x.records.words.now x.scope.now.entries at

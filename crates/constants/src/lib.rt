@@ -2,10 +2,9 @@
 // and E0005. E0070 and E0146 are not asked of a constant's value.
 #![tactic(auto)]
 
-ghost use Rattle.std.specs.Prelude.{ℕ, ◌+◌, ◌≤◌, ◌≡◌, true, List, [], ◌∷◌, length, if◌then◌else◌};
+ghost use Rattle.std.specs.Prelude.{ℕ, ◌≡◌, true, List, [], ◌∷◌, if◌then◌else◌};
 ghost use Rattle.std.proofs.Math.Option.{some};
 ghost use Rattle.lustre.specs.Name.{Name, ◌among◌};
-ghost use Rattle.lustre.specs.Types.{levels};
 ghost use Rattle.lustre.specs.Expr.{contains_temporal};
 ghost use Rattle.lustre.specs.Project.{skeleton};
 ghost use Rattle.lustre.specs.Line.{about, bare};
@@ -15,99 +14,72 @@ ghost use Rattle.lines.specs.Lines.{Noted};
 ghost use Rattle.types.specs.Value.{asTy};
 ghost use Rattle.standing.specs.Owed.{There};
 ghost use Rattle.scope.specs.Sets.{Holds};
-ghost use Rattle.constants.specs.Constants.{ConstantGiven};
+ghost use Rattle.constants.specs.Constants.{ConstantOf};
 
 use body::contains_temporal;
 use infer::infer;
-use lines::{Spot, put_line};
-use loops::connect;
-use lustre::{NONE, codes};
-use rules::hints::hint_of;
-use scope::has_name;
+use lines::{Lines, Spot};
+use loops::NameSet;
+use lustre::{NONE, Records, codes};
 use standing::skip;
-use types::Typ;
-use types::aliases::compatible;
 use types::records::read_type;
+use types::{Context, Typ};
 
-// The line of a value that has a temporal operator: E0004.
-fn check_static(kinds: &[u8], words: &[u64], start: usize, q: Spot, out: &mut [u64], n: u64) -> u64
-    requires { There kinds.now words.now start }
-    ensures { (num : Name → ℕ) (g : There kinds.now words.now start) → Noted num q (if◌then◌else◌ (contains_temporal g.e) (bare 4 ∷ []) []) out.old n result out.new }
+// The line of the value at a place that has a temporal operator: E0004.
+fn check_static(records: &Records, start: usize, q: Spot, lines: &mut Lines)
+    requires { There records.now.kinds.now records.now.words.now start }
+    ensures { (num : Name → ℕ) (g : There records.now.kinds.now records.now.words.now start) →
+        Noted num q (if contains_temporal g.e then bare 4 ∷ [] else []) lines.old lines.new }
 {
-    let end = skip(kinds, words, start) - start;
-    let rk = &kinds[start..];
-    if contains_temporal(rk, end) {
-        return put_line(out, q, n, codes::E0004, NONE, NONE);
+    let next = skip(records, start);
+    if contains_temporal(&records.kinds[start..next]) {
+        lines.put(q, codes::E0004, NONE, NONE);
     }
-    n
 }
 
 // The line of a value whose type t is not the declared one: E0005.
-fn check_fits(
-    kinds: &[u8],
-    words: &[u64],
-    scope: &[u64],
-    at: usize,
-    want: Typ,
-    t: Typ,
-    q: Spot,
-    out: &mut [u64],
-    n: u64,
-) -> u64
-    requires { ConstantGiven kinds.now words.now scope.now at × (want.levels ≤ 127) }
-    ensures { (g : ConstantGiven kinds.now words.now scope.now at) → asTy g.model.text want ≡ g.c.type → Noted g.model.number q (value_notes (context (skeleton g.model.P)) g.c (some (asTy g.model.text t))) out.old n result out.new }
+fn check_fits(ctx: &Context, at: usize, want: &Typ, t: &Typ, q: Spot, lines: &mut Lines)
+    requires { ConstantOf ctx.now at }
+    ensures { (g : ConstantOf ctx.now at) → asTy g.model.text want.now ≡ g.c.type →
+        Noted g.model.number q (value_notes (context (skeleton g.model.P)) g.c (some (asTy g.model.text t.now))) lines.old lines.new }
 {
-    if compatible(kinds, words, scope, want, t) {
-        return n;
+    if !ctx.compatible(want, t) {
+        lines.put(q, codes::E0005, NONE, ctx.records.words[at]);
     }
-    put_line(out, q, n, codes::E0005, NONE, words[at])
 }
 
 // The lines of the value of the constant at a record: E0004, those of inference, E0005.
-fn check_value(
-    kinds: &[u8],
-    words: &[u64],
-    scope: &[u64],
-    at: usize,
-    q: Spot,
-    out: &mut [u64],
-    n: u64,
-) -> u64
-    requires { ConstantGiven kinds.now words.now scope.now at × (q.function ≡ true) }
-    ensures { (g : ConstantGiven kinds.now words.now scope.now at) → Noted g.model.number q (constant_notes (context (skeleton g.model.P)) g.c) out.old n result out.new }
+fn check_value(ctx: &Context, at: usize, q: Spot, lines: &mut Lines)
+    requires constant { ConstantOf ctx.now at }
+    requires function { q.function ≡ true }
+    ensures { (g : ConstantOf ctx.now at) →
+        Noted g.model.number q (constant_notes (context (skeleton g.model.P)) g.c) lines.old lines.new }
 {
-    let d = read_type(kinds, words, at + 1);
-    let want = d.typ;
-    let start = d.next;
-    let hint = hint_of(want);
-    let m = check_static(kinds, words, start, q, out, n);
-    let rk = &kinds[start..];
-    let rw = &words[start..];
-    let r = infer(kinds, words, scope, rk, rw, 0, hint, q, out, m);
-    if r.ok {
-        return check_fits(kinds, words, scope, at, want, r.typ, q, out, r.n);
+    let declared = read_type(&ctx.records, at + 1);
+    let start = declared.next;
+    check_static(&ctx.records, start, q, lines);
+    let side = Records {
+        kinds: &ctx.records.kinds[start..],
+        words: &ctx.records.words[start..],
+    };
+    let want = declared.typ;
+    if let Some(value) = infer(ctx, &side, 0, Some(want), q, lines) {
+        check_fits(ctx, at, &want, &value.typ, q, lines);
     }
-    r.n
 }
 
 // The lines of the constant at a record. `seen` has the names of the constants before it, and then its own.
-pub fn check_constant(
-    kinds: &[u8],
-    words: &[u64],
-    scope: &[u64],
-    seen: &mut [u64],
-    at: usize,
-    q: Spot,
-    out: &mut [u64],
-    n: u64,
-) -> u64
-    requires { ConstantGiven kinds.now words.now scope.now at × (8 ≤ length seen.old) × (q.function ≡ true) }
-    ensures { (g : ConstantGiven kinds.now words.now scope.now at) (xs : List Name) → Holds g.model.text xs seen.old → Noted g.model.number q (if◌then◌else◌ (g.c.name among xs) (about 3 g.c.name ∷ []) (constant_notes (context (skeleton g.model.P)) g.c)) out.old n result out.new × Holds g.model.text (g.c.name ∷ xs) seen.new }
+pub fn check_constant(ctx: &Context, seen: &mut NameSet, at: usize, q: Spot, lines: &mut Lines)
+    requires constant { ConstantOf ctx.now at }
+    requires function { q.function ≡ true }
+    ensures { (g : ConstantOf ctx.now at) (xs : List Name) → Holds g.model.text xs seen.old.bits →
+        Noted g.model.number q (if g.c.name among xs then about 3 g.c.name ∷ [] else constant_notes (context (skeleton g.model.P)) g.c) lines.old lines.new
+        × Holds g.model.text (g.c.name ∷ xs) seen.new.bits }
 {
-    let name = words[at];
-    if has_name(seen, name) {
-        return put_line(out, q, n, codes::E0003, NONE, name);
+    let name = ctx.records.words[at];
+    if seen.insert(name) {
+        check_value(ctx, at, q, lines);
+    } else {
+        lines.put(q, codes::E0003, NONE, name);
     }
-    connect(seen, 0, name as usize);
-    check_value(kinds, words, scope, at, q, out, n)
 }

@@ -1,12 +1,13 @@
--- The assigned names one after another: the notes of each, and the set that has those assigned before.
+-- The assigned names one after another, by their numbers ns: the notes of each, and the set that has those assigned before.
 -- Assumes nothing.
 use Rattle.std.specs.Prelude.{if◌then◌else◌}
-use Prim.Native.Nat.{ℕ, ◌+◌, ◌-◌, ◌<◌}
-use mathlib.Core.Path.{◌≡◌, refl, sym, ◌∙◌, ap, subst}
+use Prim.Native.Nat.{ℕ, ◌+◌, ◌≤◌, ◌<◌}
+use mathlib.Core.Path.{◌≡◌, refl, sym, ◌∙◌, ap}
 use mathlib.Core.Bool.{Bool, true, false, not, ◌||◌}
-use mathlib.Core.List.{List, [], ◌∷◌, ◌++◌}
+use mathlib.Core.List.{List, [], ◌∷◌, ◌++◌, map}
 use lib.Dec.{eqb}
-use lib.ListN.{get_or}
+use lib.ListN.{length, get_or, drop, drop_of_length-le}
+use Rattle.std.proofs.lemmas.List.{drop_more}
 use Rattle.lustre.specs.Name.{Name, ◌among◌}
 use Rattle.lustre.specs.Types.{Ty}
 use Rattle.lustre.specs.Project.{Port, Heading, port_names}
@@ -15,15 +16,15 @@ use Rattle.lustre.specs.Node.{assigns}
 use Rattle.standing.specs.Standing.{Source}
 use Rattle.lines.specs.Lines.{Noted}
 use Rattle.lines.specs.declared.Spot.{Spot}
+use Rattle.lines.specs.declared.Lines.{Lines}
 use Rattle.lines.proofs.Laws.{noted_none, noted_append}
 use Rattle.loops.specs.Rows.{has, Connected}
 use Rattle.types.specs.Value.{Naming, Injective}
 use Rattle.scope.specs.Tables.{Tables}
 use Rattle.scope.specs.Sets.{Holds}
-use Rattle.scope.specs.Names.{NamesHere, Numbers}
+use Rattle.scope.specs.Names.{Numbers}
 use Rattle.scope.proofs.Rows.{found_among, names_pairs}
 use Rattle.scope.proofs.Sets.{holds_add, holds_same, among_append}
-use Rattle.equations.proofs.Names.{Yet, One, yet_start, one, yet_end}
 
 -- different numbers have different texts
 pub numbers_apart : (text : Naming) (num : Name → ℕ) → Numbers text num → Injective text
@@ -51,14 +52,14 @@ swapped : {A : Type 0} (b : Bool) (x y : A) → (if not b then x else y) ≡ (if
 swapped true x y = refl
 swapped false x y = refl
 
-module _ {num : Name → ℕ} {q : Spot} (known inputs seen more : List Name) (x : Name) {o o₁ o₂ o' : List ℕ} {m k l m' : ℕ} where
+module _ {num : Name → ℕ} {q : Spot} (known inputs seen more : List Name) (x : Name) {l l₁ l₂ l' : Lines} where
   -- the notes of one name, then those of the others
   assigns_one : {unknown input again : Bool} → unknown ≡ not (x among known) → input ≡ (x among inputs) → again ≡ (x among seen)
-      → Noted num q (known_notes unknown input x) o m k o₁ → Noted num q (again_notes again x) o₁ k l o₂
-      → Noted num q (assigns known inputs (x ∷ seen) more) o₂ l m' o' → Noted num q (assigns known inputs seen (x ∷ more)) o m m' o'
+      → Noted num q (known_notes unknown input x) l l₁ → Noted num q (again_notes again x) l₁ l₂
+      → Noted num q (assigns known inputs (x ∷ seen) more) l₂ l' → Noted num q (assigns known inputs seen (x ∷ more)) l l'
   unfolding assigns
   assigns_one {unknown} {input} {again} a b c f g h =
-      let u : Noted num q (if x among known then (if x among inputs then about 22 x ∷ [] else []) else about 20 x ∷ []) o m k o₁ =
+      let u : Noted num q (if x among known then (if x among inputs then about 22 x ∷ [] else []) else about 20 x ∷ []) l l₁ =
       rw (a, b, swapped (x among known) (about 20 x ∷ []) (if x among inputs then about 22 x ∷ [] else [])) at f
       in
       noted_append (noted_append u (rw c at g)) h
@@ -88,73 +89,58 @@ moved x y more seen =
     ∙ ap (λ (b : Bool). b || x among seen) (or_turn (x among more) (x among (y ∷ [])) ∙ sym (among_cons x y more))
     ∙ sym (among_append x (y ∷ more) seen)
 
-module _ {ws : List ℕ} {list : ℕ} (g : NamesHere ws list) (sc ins assigned₀ : List ℕ) (q : Spot) (out₀ : List ℕ) (n : ℕ) where
-  -- once the names that are left are noted, all are, and the set has the names before and those passed
-  pub record Gone (seen rest : List Name) (assigned out : List ℕ) (m : ℕ) : Type 0 where
-    pub by : List Name
-    pub holds : Holds g.text by assigned
-    pub same : (x : Name) → (x among (rest ++ by)) ≡ (x among (g.xs ++ seen))
-    pub noted : (num : Name → ℕ) → Numbers g.text num → (known inputs : List Name) → Entries g.text known sc → Holds g.text inputs ins
-        → {m' : ℕ} {o' : List ℕ} → Noted num q (assigns known inputs by rest) out m m' o' → Noted num q (assigns known inputs seen g.xs) out₀ n m' o'
+-- once the names from i on are noted, all are, and the set has the names before and those passed
+pub record Gone (ns sc ins : List ℕ) (q : Spot) (l₀ : Lines) (text : Naming) (seen : List Name) (i : ℕ) (assigned : List ℕ) (l : Lines) : Type 0 where
+  pub by : List Name
+  pub holds : Holds text by assigned
+  pub same : (x : Name) → (x among (map text (drop i ns) ++ by)) ≡ (x among (map text ns ++ seen))
+  pub noted : (num : Name → ℕ) → Numbers text num → (known inputs : List Name) → Entries text known sc → Holds text inputs ins
+      → {l' : Lines} → Noted num q (assigns known inputs by (map text (drop i ns))) l l' → Noted num q (assigns known inputs seen (map text ns)) l₀ l'
 
-  -- the names that are left stand at a position
-  pub record Assigning (assigned out : List ℕ) (left next m : ℕ) : Type 0 where
-    pub rest : List Name
-    pub yet : Yet g rest next left
-    pub gone : Injective g.text → (seen : List Name) → Holds g.text seen assigned₀ → Gone seen rest assigned out m
+-- what the loop keeps at the name with index i: the same of any texts of the names
+pub record Assigning (ns sc ins assigned₀ : List ℕ) (q : Spot) (l₀ : Lines) (i : ℕ) (assigned : List ℕ) (l : Lines) : Type 0 where
+  pub gone : (text : Naming) → Injective text → (seen : List Name) → Holds text seen assigned₀ → Gone ns sc ins q l₀ text seen i assigned l
 
-  -- no name is passed
-  pub assigning_start : Assigning assigned₀ out₀ (get_or ws list 0) (list + 1) n
-  assigning_start = record {
-    rest = g.xs;
-    yet = yet_start g;
-    gone = λ inj seen h. record { by = seen; holds = h; same = λ x. refl; noted = λ num back known inputs t i f. f };
+-- no name is passed
+pub assigning_start : {ns sc ins assigned : List ℕ} {q : Spot} {l : Lines} → Assigning ns sc ins assigned q l 0 assigned l
+assigning_start = record { gone = λ text inj seen h. record { by = seen; holds = h; same = λ x. refl; noted = λ num back known inputs t i f. f } }
+
+module _ {ns sc ins assigned₀ : List ℕ} {q : Spot} {l₀ : Lines} {i : ℕ} {assigned : List ℕ} {l : Lines} (a : Assigning ns sc ins assigned₀ q l₀ i assigned l) where
+  -- one name more, where its notes are written and the set has it
+  pub assigning_more : {assigned' : List ℕ} {l₁ l₂ : Lines} → i < length ns → get_or ns i 0 < 512
+      → ((num : Name → ℕ) (x : Name) → num x ≡ get_or ns i 0 → Noted num q (known_notes (eqb (get_or sc (get_or ns i 0 + 2560) 0) 0) (has ins 0 (get_or ns i 0)) x) l l₁)
+      → ((num : Name → ℕ) (x : Name) → num x ≡ get_or ns i 0 → Noted num q (again_notes (has assigned 0 (get_or ns i 0)) x) l₁ l₂)
+      → Connected assigned 0 (get_or ns i 0) assigned' → Assigning ns sc ins assigned₀ q l₀ (i + 1) assigned' l₂
+  assigning_more h b f r c = record {
+    gone = λ text inj seen held.
+        let w = get_or ns i 0 in
+        let e = drop_more ns i 0 h in
+        let more = map text (drop (i + 1) ns) in
+        let d = a.gone text inj seen held in
+        record {
+          by = text w ∷ d.by;
+          holds = holds_add inj b c d.holds;
+          same = λ x. moved x (text w) more d.by ∙ (rw e at (d.same x));
+          noted = λ num back known inputs t u s.
+              d.noted num back known inputs t u (
+              rw e
+              (assigns_one known inputs d.by more (text w) (t.each w b) (u.each w b) (d.holds.each w b) (f num (text w) (back w)) (r num (text w) (back w)) s));
+        };
   }
 
-  module _ {assigned out : List ℕ} {left next m : ℕ} (a : Assigning assigned out left next m) where
-    -- while names are left there is a first
-    pub assigning_one : 0 < left → One g a.rest next left
-    assigning_one h = one g a.yet h
+  module _ (z : length ns ≤ i) where
+    -- all are noted
+    pub assigning_noted : (text : Naming) (num : Name → ℕ) → Numbers text num → (known inputs seen : List Name) → Entries text known sc → Holds text inputs ins
+        → Holds text seen assigned₀ → Noted num q (assigns known inputs seen (map text ns)) l₀ l
+    unfolding assigns
+    assigning_noted text num back known inputs seen t u held =
+        let e = drop_of_length-le ns {i = i} z in
+        let d = a.gone text (numbers_apart text num back) seen held in
+        d.noted num back known inputs t u (rw e noted_none)
 
-    module _ (h : 0 < left) where
-      -- its number
-      abbrev w : ℕ
-      w = get_or ws next 0
-
-      -- one name more, where its notes are written and the set has it
-      pub assigning_more : {assigned' o₁ o₂ : List ℕ} {k l : ℕ}
-          → ((num : Name → ℕ) (x : Name) → num x ≡ w → Noted num q (known_notes (eqb (get_or sc (w + 2560) 0) 0) (has ins 0 w) x) out m k o₁)
-          → ((num : Name → ℕ) (x : Name) → num x ≡ w → Noted num q (again_notes (has assigned 0 w) x) o₁ k l o₂)
-          → Connected assigned 0 w assigned' → Assigning assigned' o₂ (left - 1) (next + 1) l
-      assigning_more f r c =
-          let y = assigning_one h in
-          record {
-            rest = y.more;
-            yet = y.onward;
-            gone = λ inj seen held.
-                let d : Gone seen (g.text w ∷ y.more) assigned out m = subst (λ (l : List Name). Gone seen l assigned out m) y.is (a.gone inj seen held) in
-                record {
-                  by = g.text w ∷ d.by;
-                  holds = holds_add inj y.small c d.holds;
-                  same = λ x. moved x (g.text w) y.more d.by ∙ d.same x;
-                  noted = λ num back known inputs t i s.
-                      d.noted num back known inputs t i
-                      (assigns_one known inputs d.by y.more (g.text w) (t.each w y.small) (i.each w y.small) (d.holds.each w y.small) (f num (g.text w) (back w)) (r num (g.text w) (back w)) s);
-                };
-          }
-
-    module _ (z : left ≡ 0) where
-      -- where none are left
-      finished : (seen : List Name) → Gone seen a.rest assigned out m → Gone seen [] assigned out m
-      finished seen d = subst (λ (l : List Name). Gone seen l assigned out m) (yet_end g a.yet z) d
-
-      -- all are noted
-      pub assigning_noted : (num : Name → ℕ) → Numbers g.text num → (known inputs seen : List Name) → Entries g.text known sc → Holds g.text inputs ins
-          → Holds g.text seen assigned₀ → Noted num q (assigns known inputs seen g.xs) out₀ n m out
-      unfolding assigns
-      assigning_noted num back known inputs seen t i held =
-          (finished seen (a.gone (numbers_apart g.text num back) seen held)).noted num back known inputs t i noted_none
-
-      -- and in the set
-      pub assigning_holds : Injective g.text → (seen : List Name) → Holds g.text seen assigned₀ → Holds g.text (g.xs ++ seen) assigned
-      assigning_holds inj seen held = let d = finished seen (a.gone inj seen held) in holds_same d.same d.holds
+    -- and in the set
+    pub assigning_holds : (text : Naming) → Injective text → (seen : List Name) → Holds text seen assigned₀ → Holds text (map text ns ++ seen) assigned
+    assigning_holds text inj seen held =
+        let e = drop_of_length-le ns {i = i} z in
+        let d = a.gone text inj seen held in
+        holds_same (λ x. rw e at (d.same x)) d.holds

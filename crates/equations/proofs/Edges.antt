@@ -1,14 +1,15 @@
 -- The edges of an equation in the graph: from each name assigned to each name that is read.
 -- Assumes nothing.
-use Prim.Native.Nat.{ℕ, ◌+◌, ◌-◌, ◌<◌}
+use Prim.Native.Nat.{ℕ, ◌+◌, ◌≤◌, ◌<◌}
 use native.Mathlib.Omega.{arith}
 use mathlib.Core.Path.{◌≡◌, refl, sym, ◌∙◌, ap}
 use mathlib.Core.Logic.{⊎_elim}
 use mathlib.Core.Bool.{Bool, true, false, ◌&&◌, ◌||◌}
-use mathlib.Core.List.{List, ◌∷◌}
+use mathlib.Core.List.{List, ◌∷◌, map}
 use lib.Dec.{eqb}
-use lib.ListN.{length, get_or, replicate}
+use lib.ListN.{length, get_or, drop, drop_of_length-le}
 use borrow.Author.Tests.{eq-eqb, ne_eqb}
+use Rattle.std.proofs.lemmas.List.{drop_more}
 use Rattle.lustre.specs.Name.{Name, ◌is◌, ◌among◌, mem}
 use Rattle.lustre.specs.Deps.{reads}
 use Rattle.demands.proofs.Sets.{mustnt, mem_ne, mem_self}
@@ -22,9 +23,7 @@ use Rattle.loops.specs.Rows.{has, Joined}
 use Rattle.loops.proofs.Rows.{same_or}
 use Rattle.types.specs.Value.{Naming, Injective}
 use Rattle.scope.specs.Names.{NamesHere}
-use Rattle.scope.proofs.Sets.{holds_none}
 use Rattle.equations.specs.Equations.{EquationHere, EdgesAdded}
-use Rattle.equations.proofs.Names.{Yet, One, yet_start, one, yet_end}
 
 -- a text is the first of a list, or among the others
 among_first : {text : Naming} → Injective text → (a w : ℕ) (more : List Name) → (text a among (text w ∷ more)) ≡ (eqb a w || text a among more)
@@ -48,49 +47,41 @@ or_false : (b : Bool) → (b || false) ≡ b
 or_false true = refl
 or_false false = refl
 
-module _ {ws : List ℕ} {list : ℕ} (g : NamesHere ws list) (row graph₀ : List ℕ) where
-  -- the edges from names of a list to the set, beside those of a graph
-  abbrev with_edges : List Name → List ℕ → ℕ → ℕ → Bool
-  with_edges xs graph a b = has graph a b || ((g.text a among xs) && has row 0 b)
+-- the edges from the names of a list to the set, beside those of a graph
+abbrev with_edges : (text : Naming) (ns row graph : List ℕ) → ℕ → ℕ → Bool
+with_edges text ns row graph a b = has graph a b || ((text a among map text ns) && has row 0 b)
 
-  -- with edges from the names that are left the graph has those from all
-  pub record Joining (graph : List ℕ) (left next : ℕ) : Type 0 where
-    pub rest : List Name
-    pub yet : Yet g rest next left
-    pub edges : Injective g.text → (a b : ℕ) → a < 512 → b < 512 → with_edges rest graph a b ≡ with_edges g.xs graph₀ a b
+-- with edges from the names from i on the graph has those from all
+pub record Joining (ns row graph₀ : List ℕ) (i : ℕ) (graph : List ℕ) : Type 0 where
+  pub edges : (text : Naming) → Injective text → (a b : ℕ) → a < 512 → b < 512 → with_edges text (drop i ns) row graph a b ≡ with_edges text ns row graph₀ a b
 
-  -- no name is passed
-  pub joining_start : Joining graph₀ (get_or ws list 0) (list + 1)
-  joining_start = record { rest = g.xs; yet = yet_start g; edges = λ inj a b p q. refl }
+-- no name is passed
+pub joining_start : {ns row graph : List ℕ} → Joining ns row graph 0 graph
+joining_start = record { edges = λ text inj a b p q. refl }
 
-  module _ {graph : List ℕ} {left next : ℕ} (j : Joining graph left next) where
-    -- while names are left there is a first
-    pub joining_one : 0 < left → One g j.rest next left
-    joining_one h = one g j.yet h
+module _ {ns row graph₀ : List ℕ} {i : ℕ} {graph : List ℕ} (j : Joining ns row graph₀ i graph) where
+  -- one name more
+  pub joining_more : {graph' : List ℕ} → i < length ns → Joined graph (get_or ns i 0) row graph' → Joining ns row graph₀ (i + 1) graph'
+  joining_more {graph'} h d = record {
+    edges = λ text inj a b p q.
+        let w = get_or ns i 0 in
+        let more = map text (drop (i + 1) ns) in
+        let e = drop_more ns i 0 h in
+        ap (λ (t : Bool). t || ((text a among more) && has row 0 b)) (d.edges a b q)
+        ∙ both (has graph a b) (eqb a w) (text a among more) (has row 0 b)
+        ∙ ap (λ (t : Bool). has graph a b || (t && has row 0 b)) (sym (among_first inj a w more))
+        ∙ ap (λ (l : List ℕ). with_edges text l row graph a b) (sym e)
+        ∙ j.edges text inj a b p q;
+  }
 
-    -- one name more
-    pub joining_more : {graph' : List ℕ} → 0 < left → Joined graph (get_or ws next 0) row graph' → Joining graph' (left - 1) (next + 1)
-    joining_more {graph'} h d =
-        let y = joining_one h in
-        let w = get_or ws next 0 in
-        record {
-          rest = y.more;
-          yet = y.onward;
-          edges = λ inj a b p q.
-              ap (λ (t : Bool). t || ((g.text a among y.more) && has row 0 b)) (d.edges a b q)
-              ∙ both (has graph a b) (eqb a w) (g.text a among y.more) (has row 0 b)
-              ∙ ap (λ (t : Bool). has graph a b || (t && has row 0 b)) (sym (among_first inj a w y.more))
-              ∙ ap (λ (l : List Name). with_edges l graph a b) (sym y.is)
-              ∙ j.edges inj a b p q;
-        }
-
-    -- all names
-    pub joining_done : left ≡ 0 → Injective g.text → (a b : ℕ) → a < 512 → b < 512 → has graph a b ≡ with_edges g.xs graph₀ a b
-    unfolding mem
-    joining_done z inj a b p q =
-        sym (or_false (has graph a b))
-        ∙ ap (λ (l : List Name). with_edges l graph a b) (sym (yet_end g j.yet z))
-        ∙ j.edges inj a b p q
+  -- all names
+  pub joining_done : length ns ≤ i → (text : Naming) → Injective text → (a b : ℕ) → a < 512 → b < 512 → has graph a b ≡ with_edges text ns row graph₀ a b
+  unfolding mem
+  joining_done h text inj a b p q =
+      let e = drop_of_length-le ns {i = i} h in
+      sym (or_false (has graph a b))
+      ∙ ap (λ (l : List ℕ). with_edges text l row graph a b) (sym e)
+      ∙ j.edges text inj a b p q
 
 module _ {ks ws : List ℕ} {at : ℕ} (g : EquationHere ks ws at) where
   -- the names assigned
@@ -108,14 +99,13 @@ module _ {ks ws : List ℕ} {at : ℕ} (g : EquationHere ks ws at) where
   side_inside = let t = side_of refl in (expr_record (source ks ws g.text) t.e (at + 1 + 1 + get_or ws (at + 1) 0) t.stands).in_words
 
   -- edges to the names that were collected from none
-  pub edges_added : {start r : ℕ} {row graph graph' : List ℕ} → Injective g.text
-      → Collected g.text g.eq.rhs start (replicate 8 0) r row
+  pub edges_added : {start r : ℕ} {none row graph graph' : List ℕ} → Injective g.text → ((b : ℕ) → has none 0 b ≡ false)
+      → Collected g.text g.eq.rhs start none r row
       → ((a b : ℕ) → a < 512 → b < 512 → has graph' a b ≡ (has graph a b || ((g.text a among g.eq.lhs) && has row 0 b)))
       → EdgesAdded g.text g.eq graph graph'
-  unfolding mem
-  edges_added {row = row} {graph} {graph'} inj c f = record {
+  edges_added {row = row} {graph} {graph'} inj empty c f = record {
     edges = λ a b p q.
         f a b p q
         ∙ ap (λ (t : Bool). has graph a b || ((g.text a among g.eq.lhs) && t))
-        (c.names.each b q (λ m s e. inj m b e) ∙ ap (λ (t : Bool). t || g.text b among reads g.eq.rhs) ((holds_none g.text).each b q));
+        (c.names.each b q (λ m s e. inj m b e) ∙ ap (λ (t : Bool). t || g.text b among reads g.eq.rhs) (empty b));
   }

@@ -1,12 +1,14 @@
 -- A right-hand side that is a tuple: E0042 by the numbers of names and members, and E0043 where it is itself a call, name by name.
 -- Assumes nothing.
-use Prim.Native.Nat.{ℕ, ◌+◌, ◌<◌, min}
+use Prim.Native.Nat.{ℕ, ◌+◌, ◌-◌, ◌≤◌, ◌<◌, min}
 use native.Mathlib.Omega.{arith}
-use mathlib.Core.Path.{◌≡◌, refl, sym, ap, ap₂, ◌∙◌}
+use mathlib.Core.Path.{◌≡◌, refl, sym, ap, ◌∙◌}
 use mathlib.Core.Bool.{Bool, true, false}
-use mathlib.Core.List.{List, [], ◌∷◌, ◌++◌}
+use mathlib.Core.List.{List, [], ◌∷◌, ◌++◌, map}
 use mathlib.Core.Option.{Option, none}
-use lib.ListN.{length, get_or}
+use lib.ListN.{length, get_or, drop, length-map, length-drop}
+use Rattle.std.specs.Prelude.{Some, None}
+use Rattle.std.proofs.lemmas.List.{drop_more}
 use borrow.Author.Tests.{eq-eqb, ne_eqb}
 use Rattle.lustre.specs.Name.{Name, lookup}
 use Rattle.lustre.specs.Types.{Ty, levels}
@@ -17,22 +19,26 @@ use Rattle.lustre.specs.Line.{Note, bare, about}
 use Rattle.lustre.specs.Resolve.{Scope, context, compatible}
 use Rattle.lustre.specs.Node.{bound_one, bound_each, bound_tuple, outputs_in, called_outputs}
 use Rattle.input.specs.Depths.{ShallowPorts}
-use Rattle.standing.specs.Standing.{Source, RecAt, ExprAt, EachAt, MentionAt, one_record, PortAt, port_size, ports_size}
+use Rattle.standing.specs.Standing.{Source, RecAt, ExprAt, EachAt, PortAt, port_size, ports_size}
 use Rattle.standing.proofs.Inversions.{WithName, Arguments, expr_record, call_here}
-use Rattle.standing.proofs.Sizes.{First, first}
 use Rattle.lines.specs.Lines.{Noted}
 use Rattle.lines.specs.declared.Spot.{Spot}
+use Rattle.lines.specs.declared.Lines.{Lines}
 use Rattle.lines.proofs.Laws.{noted_none, noted_append}
 use Rattle.types.specs.Place.{Read}
+use Rattle.types.specs.Value.{Naming, asTy}
 use Rattle.types.specs.Scope.{Compares}
 use Rattle.types.specs.declared.Typ.{Typ}
-use Rattle.rules.specs.World.{Typed, Listed, HeadingAt, PortsHere, Found}
-use Rattle.rules.proofs.Laws.{found, found_not, Leads, leads}
+use Rattle.rules.specs.World.{Listed, HeadingAt, PortsHere, Found}
+use Rattle.rules.specs.Post.{HintIs}
+use Rattle.rules.proofs.Laws.{found}
 use Rattle.rules.proofs.Places.{read_is}
 use Rattle.rules.proofs.PortLaws.{FirstPort, first_port}
 use Rattle.scope.specs.Tables.{records}
 use Rattle.scope.proofs.World.{apart}
-use Rattle.equations.specs.Equations.{OutputGiven, OutputsGiven, SidesGiven}
+use Rattle.scope.specs.Names.{NamesHere}
+use Rattle.equations.specs.Equations.{OutputGiven, output_notes, OutputsGiven, SidesGiven}
+use Rattle.equations.proofs.Names.{names_in, names_are, first_many, first_at}
 use Rattle.equations.proofs.Types.{alias_table, one_free, one_fits, one_unfit}
 
 -- ---- the numbers
@@ -58,34 +64,30 @@ module _ (Γ : Scope) (env : List Port) where
 
 -- ---- one name and one output
 
-module _ {ks ws sc : List ℕ} {at : ℕ} (g : OutputGiven ks ws sc at) {name : ℕ} (b : name < 512) where
+module _ {ks ws sc : List ℕ} {at : ℕ} (g : OutputGiven ks ws sc at) (name : ℕ) where
   abbrev output_scope : Scope
   output_scope = context (skeleton g.scoped.model.P)
 
+  abbrev text : Naming
+  text = g.scoped.model.text
+
   abbrev declared : Option Ty
-  declared = lookup (g.scoped.model.text name) g.scoped.env
+  declared = lookup (text name) g.scoped.env
 
   -- a name that is no port or local
-  pub output_free : get_or sc (name + 2560) 0 ≡ 0 → bound_one output_scope 43 (g.scoped.model.text name) g.t declared ≡ []
-  output_free e = one_free output_scope 43 (g.scoped.model.text name) g.t (found_not (g.scoped.declared.port name b) e)
+  pub output_free : HintIs text declared 67 None → output_notes g name ≡ []
+  output_free d = one_free output_scope 43 (text name) g.t (sym d.is)
 
-  module _ (n : get_or sc (name + 2560) 0 ≡ 0 → ⊥) where
-    -- the declared type, at the name's entry
-    pub output_name : Leads (Typed (records g.scoped.model)) (get_or sc (name + 2560) 0) declared
-    output_name = leads (Typed (records g.scoped.model)) (g.scoped.declared.port name b) n
+  module _ {want got : Typ} {j : ℕ} {r : Bool} (d : HintIs text declared 67 (Some want)) (dg : Read ks ws at got j) (dc : Compares ks ws sc want got r) where
+    -- what the code compares is the declared type and the output's
+    compared : r ≡ compatible output_scope.alias (asTy text want) g.t
+    compared = dc text (apart g.scoped.model) output_scope.alias (alias_table g.scoped) ∙ ap (compatible output_scope.alias (asTy text want)) (read_is g.typed dg).is
 
-    module _ {want got : Typ} {i j : ℕ} {r : Bool} (dw : Read ks ws (get_or sc (name + 2560) 0) want i) (dg : Read ks ws at got j) (dc : Compares ks ws sc want got r) where
-      -- what the code compares is the declared type and the output's
-      compared : r ≡ compatible output_scope.alias output_name.a g.t
-      compared =
-          dc g.scoped.model.text (apart g.scoped.model) output_scope.alias (alias_table g.scoped)
-          ∙ ap₂ (compatible output_scope.alias) (read_is output_name.there dw).is (read_is g.typed dg).is
+    pub output_fits : r ≡ true → output_notes g name ≡ []
+    output_fits h = one_fits output_scope 43 (text name) g.t (sym d.is) (sym compared ∙ h)
 
-      pub output_fits : r ≡ true → bound_one output_scope 43 (g.scoped.model.text name) g.t declared ≡ []
-      output_fits h = one_fits output_scope 43 (g.scoped.model.text name) g.t output_name.is (sym compared ∙ h)
-
-      pub output_unfit : r ≡ false → bound_one output_scope 43 (g.scoped.model.text name) g.t declared ≡ about 43 (g.scoped.model.text name) ∷ []
-      output_unfit h = one_unfit output_scope 43 (g.scoped.model.text name) g.t output_name.is (sym compared ∙ h)
+    pub output_unfit : r ≡ false → output_notes g name ≡ about 43 (text name) ∷ []
+    output_unfit h = one_unfit output_scope 43 (text name) g.t (sym d.is) (sym compared ∙ h)
 
 -- ---- the callee
 
@@ -160,16 +162,9 @@ module _ {ks ws sc : List ℕ} {list start : ℕ} (g : SidesGiven ks ws sc list 
     pub outputs : Listed (records g.left.scoped.model) h.outputs (e + ports_size h.inputs)
     pub are : called_outputs model_scope (form g.e) ≡ h.outputs
 
-  pub callee : (h : get_or ks start 0 ≡ 70) → (get_or sc (get_or ws start 0 + 2048) 0 ≡ 0 → ⊥) → Callee (get_or sc (get_or ws start 0 + 2048) 0)
+  pub callee : (h : get_or ks start 0 ≡ 70) (p : ℕ) → get_or sc (get_or ws start 0 + 2048) 0 ≡ p + 1 → Callee (p + 1)
   unfolding outputs_in
-  callee h n =
-      let w = found (called_entry h) n in
-      record {
-        h = w.a;
-        inputs = rw w.back at w.there.inputs;
-        outputs = rw w.back at w.there.outputs;
-        are = called_are h ∙ ap outputs_in w.is;
-      }
+  callee h p n = let w = found (called_entry h) n in record { h = w.a; inputs = w.there.inputs; outputs = w.there.outputs; are = called_are h ∙ ap outputs_in w.is }
 
   -- a tuple of as many members as names gets what its outputs say
   pub tuple_called : {e n : ℕ} (c : Callee e) → n ≡ get_or ws list 0 → bound_tuple model_scope g.left.scoped.env g.left.xs (form g.e) n ≡ bound_each model_scope g.left.scoped.env g.left.xs c.h.outputs
@@ -195,58 +190,71 @@ module _ {ks ws sc : List ℕ} {list outputs : ℕ} (g : OutputsGiven ks ws sc l
   abbrev here : Source
   here = records g.left.scoped.model
 
+  abbrev texts : List ℕ → List Name
+  texts = map g.left.scoped.model.text
+
+  -- the names assigned, by their numbers
+  abbrev pub left_names : NamesHere ws list
+  left_names = record { ks = ks; text = g.left.scoped.model.text; xs = g.left.xs; listed = g.left.listed }
+
   abbrev each : List Name → List Port → List Note
   each = bound_each (context (skeleton g.left.scoped.model.P)) g.left.scoped.env
 
-  -- what the loop keeps: the names and the outputs that are left; once these are noted, all are
-  pub record Judging (q : Spot) (o₀ : List ℕ) (n : ℕ) (o : List ℕ) (left next port m : ℕ) : Type 0 where
-    pub names : List Name
+  -- what the loop keeps at the name with index i: the outputs that are left; once these and the names that are left are noted, all are
+  pub record Judging (q : Spot) (l₀ : Lines) (i port : ℕ) (l : Lines) : Type 0 where
     pub ports : List Port
-    pub names_at : EachAt (MentionAt here) one_record names next
     pub ports_at : EachAt (PortAt here) port_size ports port
     pub few : ShallowPorts ports
-    pub many : left ≡ min (length names) (length ports)
-    pub all : {k : ℕ} {o' : List ℕ} → Noted g.left.scoped.model.number q (each names ports) o m k o' → Noted g.left.scoped.model.number q (each g.left.xs g.ps) o₀ n k o'
+    pub many : length ports + i ≡ length g.ps
+    pub all : {l' : Lines} → Noted g.left.scoped.model.number q (each (texts (drop i (names_in ws list))) ports) l l' → Noted g.left.scoped.model.number q (each g.left.xs g.ps) l₀ l'
 
-  pub judging_start : {q : Spot} {o : List ℕ} {n left : ℕ} → left ≡ min (get_or ws list 0) (get_or ws outputs 0) → Judging q o n o left (list + 1) (outputs + 1) n
-  judging_start e = record {
-    names = g.left.xs;
+  pub judging_start : {q : Spot} {l : Lines} → Judging q l 0 (outputs + 1) l
+  judging_start = record {
     ports = g.ps;
-    names_at = g.left.listed.items;
     ports_at = g.listed.stand.items;
     few = g.listed.few;
-    many = rw (g.left.listed.many, g.listed.stand.many) at e;
-    all = λ d. d;
+    many = omega arith;
+    all = λ d. rw (names_are left_names) at d;
   }
 
-  module _ {q : Spot} {o₀ o : List ℕ} {n left next port m : ℕ} (j : Judging q o₀ n o left next port m) where
-    -- none are left of one of them
-    pub judging_end : left ≡ 0 → Noted g.left.scoped.model.number q (each g.left.xs g.ps) o₀ n m o
-    judging_end z = j.all (rw (each_none (context (skeleton g.left.scoped.model.P)) g.left.scoped.env j.names j.ports (sym j.many ∙ z)) noted_none)
+  -- so many names have an output
+  module _ {k : ℕ} (both : k ≡ min (get_or ws list 0) (get_or ws outputs 0)) where
+    -- they are among those assigned
+    pub both_names : k ≤ get_or ws list 0
+    both_names = omega arith
 
-    module _ (h : 0 < left) where
-      -- the next name
-      pub judged_name : First (MentionAt here) one_record j.names next (length j.names)
-      judged_name = first (MentionAt here) one_record j.names next (length j.names) refl (λ z. omega (arith, j.many)) j.names_at
+    module _ {q : Spot} {l₀ l : Lines} {i port : ℕ} (j : Judging q l₀ i port l) where
+      -- none are left of one of them
+      pub judging_end : k ≤ i → Noted g.left.scoped.model.number q (each g.left.xs g.ps) l₀ l
+      judging_end h =
+          let many : length (texts (drop i (names_in ws list))) ≡ get_or ws list 0 - i = simp (length-map, length-drop) (ap (λ (m : ℕ). m - i) (first_many left_names {k = get_or ws list 0} (omega arith))) in
+          j.all (rw (each_none (context (skeleton g.left.scoped.model.P)) g.left.scoped.env (texts (drop i (names_in ws list))) j.ports (omega (arith, many, j.many, g.listed.stand.many))) noted_none)
 
-      -- the next output
-      pub judged_port : FirstPort here j.ports port (length j.ports)
-      judged_port = first_port here j.ports port (length j.ports) refl (λ z. omega (arith, j.many)) j.ports_at j.few
+      module _ (h : i < k) where
+        -- the next name
+        abbrev w : ℕ
+        w = get_or ws (list + 1 + i) 0
 
-      -- its type, for `check_output`
-      abbrev pub judged_output : OutputGiven ks ws sc (port + 1)
-      judged_output = record { scoped = g.left.scoped; t = judged_port.p.1; typed = judged_port.typed }
+        next_name : drop i (names_in ws list) ≡ w ∷ drop (i + 1) (names_in ws list)
+        next_name =
+            let e = drop_more (names_in ws list) i 0 (omega (arith, first_many left_names {k = get_or ws list 0} (omega arith))) in
+            e ∙ ap (λ (n : ℕ). n ∷ drop (i + 1) (names_in ws list)) (first_at left_names i (omega arith))
 
-      -- one name and one output less
-      pub judging_more : {o' : List ℕ} {m' i e : ℕ} → i + 1 ≡ left → e ≡ port + 1 + levels judged_port.p.1
-          → Noted g.left.scoped.model.number q (bound_one (context (skeleton g.left.scoped.model.P)) 43 (g.left.scoped.model.text (get_or ws next 0)) judged_port.p.1 (lookup (g.left.scoped.model.text (get_or ws next 0)) g.left.scoped.env)) o m m' o'
-          → Judging q o₀ n o' i (next + 1) e m'
-      judging_more c q d = record {
-        names = judged_name.rest;
-        ports = judged_port.others;
-        names_at = judged_name.rest_at;
-        ports_at = rw q judged_port.stand;
-        few = judged_port.few;
-        many = omega (arith, j.many, judged_name.fewer, judged_port.fewer);
-        all = λ r. j.all (rw (each_more (context (skeleton g.left.scoped.model.P)) g.left.scoped.env judged_name.is judged_port.are) (noted_append (rw judged_name.x_at.name.text at d) r));
-      }
+        -- the next output
+        pub judged_port : FirstPort here j.ports port (length j.ports)
+        judged_port = first_port here j.ports port (length j.ports) refl (λ z. omega (arith, j.many, g.listed.stand.many)) j.ports_at j.few
+
+        -- its type, for `check_output`
+        abbrev pub judged_output : OutputGiven ks ws sc (port + 1)
+        judged_output = record { scoped = g.left.scoped; t = judged_port.p.1; typed = judged_port.typed }
+
+        -- one name and one output less
+        pub judging_more : {l' : Lines} {n e : ℕ} → n ≡ w → e ≡ port + 1 + levels judged_port.p.1
+            → Noted g.left.scoped.model.number q (output_notes judged_output n) l l' → Judging q l₀ (i + 1) e l'
+        judging_more c q d = record {
+          ports = judged_port.others;
+          ports_at = rw q judged_port.stand;
+          few = judged_port.few;
+          many = omega (arith, j.many, judged_port.fewer);
+          all = λ r. j.all (rw (each_more (context (skeleton g.left.scoped.model.P)) g.left.scoped.env (ap texts next_name) judged_port.are) (noted_append (rw c at d) r));
+        }

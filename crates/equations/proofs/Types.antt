@@ -1,14 +1,18 @@
 -- The names assigned and the type of a right-hand side: the declared type of the one name, and E0040 and E0041 of a type that is no tuple.
 -- Assumes nothing.
-use Rattle.std.specs.Prelude.{if◌then◌else◌}
+use Rattle.std.specs.Prelude as code
+use Rattle.std.specs.Prelude.{None, Some, MatchOption}
+use Rattle.std.specs.Option.{is_some}
 use Prim.Native.Nat.{ℕ, ◌+◌, ◌≤◌}
 use native.Mathlib.Omega.{arith}
 use mathlib.Core.Path.{◌≡◌, refl, sym, ap, ◌∙◌}
-use mathlib.Core.Bool.{Bool, true, false}
+use mathlib.Core.Bool.{Bool, true, false, not}
 use mathlib.Core.List.{List, [], ◌∷◌, ◌++◌}
 use mathlib.Core.Option.{Option, none, some}
-use lib.ListN.{length, get_or}
-use Rattle.lustre.specs.Name.{Name}
+use lib.Dec.{eqb}
+use lib.ListN.{length, get_or, length-drop}
+use borrow.Author.Tests.{eq-eqb, ne_eqb}
+use Rattle.lustre.specs.Name.{Name, lookup}
 use Rattle.lustre.specs.Types.{Ty, members}
 use Rattle.lustre.specs.Expr.{Form}
 use Rattle.lustre.specs.Project.{Port, skeleton}
@@ -16,19 +20,21 @@ use Rattle.lustre.specs.Line.{Note, Out, bare, about}
 use Rattle.lustre.specs.Resolve.{Scope, compatible, context}
 use Rattle.lustre.specs.Node.{wanted, bound_one, bound_plain, bound_tuple, bound_as, bound}
 use Rattle.standing.specs.Standing.{RecAt, NameAt, MentionAt, one_record}
+use Rattle.standing.proofs.Parts.{part, part_is}
 use Rattle.standing.proofs.Sizes.{first, no_items}
 use Rattle.lines.specs.Lines.{Noted, Said}
 use Rattle.lines.specs.declared.Spot.{Spot}
+use Rattle.lines.specs.declared.Lines.{Lines}
 use Rattle.lines.proofs.Laws.{noted_append}
 use Rattle.types.specs.Value.{Naming}
 use Rattle.types.specs.Scope.{Table}
-use Rattle.types.specs.declared.Hint.{Hint}
-use Rattle.rules.specs.World.{Typed, Found}
+use Rattle.types.specs.declared.Typ.{Typ}
+use Rattle.types.specs.declared.Context.{Context}
 use Rattle.rules.specs.Post.{HintIs}
 use Rattle.infer.specs.Post.{GivenWhole}
 use Rattle.scope.specs.Tables.{records, Scoped}
 use Rattle.scope.proofs.World.{types_targets, world}
-use Rattle.equations.specs.Equations.{LeftGiven, SidesGiven}
+use Rattle.equations.specs.Equations.{LeftGiven, SidesGiven, SidesOf}
 
 -- ---- the one name
 
@@ -51,10 +57,10 @@ module _ {ks ws sc : List ℕ} {list : ℕ} (g : LeftGiven ks ws sc list) where
   pub one_number : (o : One) → g.scoped.model.number o.x ≡ get_or ws (list + 1) 0
   one_number o = ap g.scoped.model.number (sym o.name.text) ∙ g.scoped.model.back (get_or ws (list + 1) 0)
 
-  -- what its entry among ports and locals says
-  pub one_entry : (o : One) → Found (λ p t. Typed (records g.scoped.model) t (p + 1)) (get_or sc (get_or ws (list + 1) 0 + 2560) 0) (wanted g.scoped.env g.xs)
+  -- its declared type is the one wanted
+  pub one_wanted : (o : One) → lookup (g.scoped.model.text (get_or ws (list + 1) 0)) g.scoped.env ≡ wanted g.scoped.env g.xs
   unfolding wanted
-  one_entry o = rw (o.are, ← o.name.text) (g.scoped.declared.port (get_or ws (list + 1) 0) o.name.small)
+  one_wanted o = rw (o.are, ← o.name.text)
 
   -- none or several names
   pub none_wanted : (get_or ws list 0 ≡ 1 → ⊥) → wanted g.scoped.env g.xs ≡ none
@@ -72,18 +78,18 @@ pub alias_table : {ks ws sc : List ℕ} (w : Scoped ks ws sc) → Table w.model.
 unfolding context
 alias_table w = (types_targets w.declared).1
 
--- a weaker bound of a hint
-pub hint_low : {ρ : Naming} {s u : Option Ty} {high : ℕ} {r : Hint} → s ≡ u → high ≤ 67 → HintIs ρ s high r → HintIs ρ u 67 r
-hint_low e h d = record { is = d.is ∙ e; low = omega (arith, d.low); known = d.known }
+-- no type, where none is declared
+pub no_type : {ρ : Naming} {s : Option Ty} → s ≡ none → HintIs ρ s 67 None
+no_type e = record { is = sym e; low = omega arith; known = tt }
+
+-- an entry is 0 exactly where it leads to no declaration
+pub free_entry : (r : code.Option ℕ) (e : ℕ) (b : Bool) → MatchOption r (e ≡ 0) (λ p. e ≡ p + 1) → is_some r ≡ not b → eqb e 0 ≡ b
+free_entry None e true h s = eq-eqb e 0 h
+free_entry None e false h s = cc
+free_entry (Some p) e true h s = cc
+free_entry (Some p) e false h s = ne_eqb e 0 (λ z. omega arith)
 
 -- ---- E0040 and E0041
-
--- a test for a tuple says whether there are members
-pub members_yes : {o : Option ℕ} (b : Bool) (n : ℕ) → o ≡ (if b then some n else none) → b ≡ true → o ≡ some n
-members_yes b n h e = h ∙ rw e
-
-pub members_no : {o : Option ℕ} (b : Bool) (n : ℕ) → o ≡ (if b then some n else none) → b ≡ false → o ≡ none
-members_no b n h e = h ∙ rw e
 
 -- one name and a value of type t
 module _ (Γ : Scope) (code : ℕ) (a : Name) (t : Ty) {w : Option Ty} where
@@ -127,10 +133,14 @@ unfolding bound
 bound_nothing Γ env xs f = refl
 
 -- what inference says, and what is said of its type then
-pub said_then_noted : {A : Type 0} {num : Name → ℕ} {q : Spot} {s : Out A} {v w : Option A} {o o₁ o₂ : List ℕ} {n m k : ℕ} (f : Option A → List Note)
-    → v ≡ w → Said num q s v o n m o₁ → Noted num q (f w) o₁ m k o₂ → Noted num q (s.1 ++ f s.0) o n k o₂
+pub said_then_noted : {A : Type 0} {num : Name → ℕ} {q : Spot} {s : Out A} {v w : Option A} {l l₁ l₂ : Lines} (f : Option A → List Note)
+    → v ≡ w → Said num q s v l l₁ → Noted num q (f w) l₁ l₂ → Noted num q (s.1 ++ f s.0) l l₂
 said_then_noted f e d h = rw (← d.value, e) (noted_append d.noted h)
 
 -- what inference asks for, with a hint that is the declared type
-abbrev pub sides_whole : {ks ws sc : List ℕ} {list start : ℕ} {h : Hint} (g : SidesGiven ks ws sc list start) → HintIs g.left.scoped.model.text (wanted g.left.scoped.env g.left.xs) 67 h → GivenWhole ks ws sc start h
-sides_whole g d = record { W = world g.left.scoped.model g.left.scoped.declared; few = g.left.scoped.model.few; e = g.e; stands = g.stands; shallow = g.shallow; low = omega (arith, d.low); known = d.known }
+abbrev pub sides_whole : {x : Context} {list start : ℕ} {h : code.Option Typ} (g : SidesOf x list start) → HintIs g.left.scoped.model.text (wanted g.left.scoped.env g.left.xs) 67 h → GivenWhole x start h
+sides_whole g d = record { W = world g.left.scoped.model g.left.scoped.declared; few = g.left.scoped.model.few; e = g.e; stands = g.stands; shallow = g.shallow; known = d.known }
+
+-- the side has no more records than the whole
+pub sides_few : {ks ws sc : List ℕ} {list start : ℕ} (g : SidesGiven ks ws sc list start) → length (part ks start) ≤ 4096
+sides_few {ks} {start = start} g = rw (part_is ks start) (omega (arith, length-drop start ks, g.left.scoped.model.few))

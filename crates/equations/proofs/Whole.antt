@@ -18,6 +18,7 @@ use Rattle.standing.proofs.Inversions.{expr_record}
 use Rattle.standing.proofs.Sizes.{names_sizes}
 use Rattle.lines.specs.Lines.{Noted}
 use Rattle.lines.specs.declared.Spot.{Spot}
+use Rattle.lines.specs.declared.Lines.{Lines}
 use Rattle.lines.proofs.Laws.{noted_append}
 use Rattle.scope.specs.Names.{NamesHere}
 use Rattle.scope.specs.Tables.{records}
@@ -57,10 +58,10 @@ module _ {ks ws sc : List ℕ} {at : ℕ} (g : EquationGiven ks ws sc at) where
   side_next e = omega (arith, side_start)
 
   -- the notes of its names, of its right-hand side and of its type are those of the equation
-  pub equation_noted : {q : Spot} (node : Node) (seen : List Name) {f : Bool} → is_function node.kind ≡ f → {o o₁ o₂ o₃ : List ℕ} {n m k l : ℕ}
-      → Noted g.scoped.model.number q (assigns (port_names g.scoped.env) (port_names node.inputs) seen g.eq.lhs) o n m o₁
-      → Noted g.scoped.model.number q (side_notes f g.eq.rhs) o₁ m k o₂
-      → Noted g.scoped.model.number q (type_notes sides_given f) o₂ k l o₃
-      → Noted g.scoped.model.number q (equation_notes (context (skeleton g.scoped.model.P)) node g.scoped.env seen g.eq) o n l o₃
+  pub equation_noted : {q : Spot} (node : Node) (seen : List Name) {f : Bool} → is_function node.kind ≡ f → {l l₁ l₂ l₃ : Lines}
+      → Noted g.scoped.model.number q (assigns (port_names g.scoped.env) (port_names node.inputs) seen g.eq.lhs) l l₁
+      → Noted g.scoped.model.number q (side_notes f g.eq.rhs) l₁ l₂
+      → Noted g.scoped.model.number q (type_notes sides_given f) l₂ l₃
+      → Noted g.scoped.model.number q (equation_notes (context (skeleton g.scoped.model.P)) node g.scoped.env seen g.eq) l l₃
   unfolding equation_notes
   equation_noted node seen e a b c = rw (e, notes_grouped) (noted_append a (noted_append b c))

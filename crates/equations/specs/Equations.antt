@@ -17,10 +17,11 @@ use Rattle.input.specs.Depths.{ShallowExpr}
 use Rattle.standing.specs.Standing.{source, NamesAt, ExprAt, EquationAt, equation_size}
 use Rattle.lines.specs.Lines.{Noted}
 use Rattle.lines.specs.declared.Spot.{Spot}
+use Rattle.lines.specs.declared.Lines.{Lines}
 use Rattle.types.specs.Value.{Naming}
+use Rattle.types.specs.declared.Context.{Context}
 use Rattle.rules.specs.World.{Typed, Listed}
 use Rattle.body.specs.Body.{notes}
-use Rattle.body.specs.declared.Passed.{Passed}
 use Rattle.loops.specs.Rows.{has}
 use Rattle.scope.specs.Tables.{records, scope_in, Scoped}
 use Rattle.scope.specs.Sets.{Holds}
@@ -29,17 +30,27 @@ use Rattle.scope.specs.Sets.{Holds}
 abbrev pub side_notes : Bool → Expr → List Note
 side_notes function e = (if function && contains_temporal e then bare 30 ∷ [] else []) ++ notes 70 (pres 0 e false) ++ notes 146 (nested e)
 
+-- a model whose tables stand in the scope of a context
+abbrev pub ScopedOf : Context → Type 0
+ScopedOf x = Scoped x.records.kinds.now x.records.words.now x.scope.now.entries
+
 -- the names xs assigned stand in the list at a place of a model in whose scope they are looked up
 pub record LeftGiven (ks ws sc : List ℕ) (list : ℕ) : Type 0 where
   pub scoped : Scoped ks ws sc
   pub xs : List Name
   pub listed : NamesAt (records scoped.model) xs list
 
+abbrev pub LeftOf : Context → ℕ → Type 0
+LeftOf x list = LeftGiven x.records.kinds.now x.records.words.now x.scope.now.entries list
+
 -- the type t stands at a place of such a model
 pub record OutputGiven (ks ws sc : List ℕ) (at : ℕ) : Type 0 where
   pub scoped : Scoped ks ws sc
   pub t : Ty
   pub typed : Typed (records scoped.model) t at
+
+abbrev pub OutputOf : Context → ℕ → Type 0
+OutputOf x at = OutputGiven x.records.kinds.now x.records.words.now x.scope.now.entries at
 
 -- the note of the name of that number where its declared type is not t
 abbrev pub output_notes : {ks ws sc : List ℕ} {at : ℕ} → OutputGiven ks ws sc at → ℕ → List Note
@@ -54,6 +65,9 @@ pub record OutputsGiven (ks ws sc : List ℕ) (list outputs : ℕ) : Type 0 wher
   pub ps : List Port
   pub listed : Listed (records left.scoped.model) ps outputs
 
+abbrev pub OutputsOf : Context → ℕ → ℕ → Type 0
+OutputsOf x list outputs = OutputsGiven x.records.kinds.now x.records.words.now x.scope.now.entries list outputs
+
 -- the notes of the names, each beside the output at its position
 abbrev pub outputs_notes : {ks ws sc : List ℕ} {list outputs : ℕ} → OutputsGiven ks ws sc list outputs → List Note
 outputs_notes g =
@@ -66,6 +80,9 @@ pub record SidesGiven (ks ws sc : List ℕ) (list start : ℕ) : Type 0 where
   pub e : Expr
   pub stands : ExprAt (records left.scoped.model) e start
   pub shallow : ShallowExpr e
+
+abbrev pub SidesOf : Context → ℕ → ℕ → Type 0
+SidesOf x list start = SidesGiven x.records.kinds.now x.records.words.now x.scope.now.entries list start
 
 -- E0042 or E0043 where the right-hand side is a tuple of so many members
 abbrev pub tuple_notes : {ks ws sc : List ℕ} {list start : ℕ} → SidesGiven ks ws sc list start → ℕ → List Note
@@ -93,12 +110,15 @@ pub record EquationGiven (ks ws sc : List ℕ) (at : ℕ) : Type 0 where
   pub stands : EquationAt (records scoped.model) eq at
   pub shallow : ShallowExpr eq.rhs
 
+abbrev pub EquationOf : Context → ℕ → Type 0
+EquationOf x at = EquationGiven x.records.kinds.now x.records.words.now x.scope.now.entries at
+
 -- what the check of an equation does in a node whose inputs are in the set `ins`, where the names `seen` are assigned before
-pub record EquationChecked {ks ws sc : List ℕ} {at : ℕ} (g : EquationGiven ks ws sc at) (q : Spot) (ins set o : List ℕ) (n : ℕ) (r : Passed) (set' o' : List ℕ) : Type 0 where
-  pub next : r.next ≡ at + equation_size g.eq
+pub record EquationChecked {ks ws sc : List ℕ} {at : ℕ} (g : EquationGiven ks ws sc at) (q : Spot) (ins set : List ℕ) (l : Lines) (r : ℕ) (set' : List ℕ) (l' : Lines) : Type 0 where
+  pub next : r ≡ at + equation_size g.eq
   pub noted : (node : Node) (seen : List Name)
       → is_function node.kind ≡ q.function → Holds g.scoped.model.text (port_names node.inputs) ins → Holds g.scoped.model.text seen set
-      → Noted g.scoped.model.number q (equation_notes (context (skeleton g.scoped.model.P)) node g.scoped.env seen g.eq) o n r.n o'
+      → Noted g.scoped.model.number q (equation_notes (context (skeleton g.scoped.model.P)) node g.scoped.env seen g.eq) l l'
   pub assigned : (seen : List Name) → Holds g.scoped.model.text seen set → Holds g.scoped.model.text (g.eq.lhs ++ seen) set'
 
 -- an equation at a place of any records

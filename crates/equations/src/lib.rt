@@ -2,9 +2,9 @@
 // immediate dependencies, lib.rs 1490.
 #![tactic(auto)]
 
-ghost use Rattle.std.specs.Prelude.{ℕ, ◌+◌, ◌<◌, ◌≤◌, min, ◌≡◌, ◌&&◌, ◌||◌, List, [], ◌∷◌, ◌++◌, eqb, length, get_or, if◌then◌else◌};
+ghost use Rattle.std.specs.Prelude.{ℕ, ◌+◌, ◌<◌, ◌≤◌, ◌≡◌, ◌&&◌, ◌||◌, List, [], ◌∷◌, ◌++◌, eqb, length, get_or, if◌then◌else◌};
 ghost use Rattle.std.proofs.Math.Option.{some};
-ghost use Rattle.lustre.specs.Name.{Name, ◌among◌};
+ghost use Rattle.lustre.specs.Name.{Name, ◌among◌, lookup};
 ghost use Rattle.lustre.specs.Types.{Ty};
 ghost use Rattle.lustre.specs.Expr.{contains_temporal, size};
 ghost use Rattle.lustre.specs.Project.{Port, Heading, port_names};
@@ -13,318 +13,254 @@ ghost use Rattle.lustre.specs.Node.{assigns, wanted};
 ghost use Rattle.standing.specs.Standing.{source};
 ghost use Rattle.standing.specs.Owed.{There};
 ghost use Rattle.lines.specs.Lines.{Noted};
-ghost use Rattle.loops.specs.Rows.{has, Connected};
-ghost use Rattle.types.specs.Value.{Injective, asTy, Known};
+ghost use Rattle.loops.specs.Rows.{has};
+ghost use Rattle.types.specs.Value.{Injective, asTy};
 ghost use Rattle.types.specs.Number.{asHint};
 ghost use Rattle.rules.specs.Post.{HintIs};
 ghost use Rattle.scope.specs.Tables.{Tables};
 ghost use Rattle.scope.specs.Sets.{Holds};
 ghost use Rattle.scope.specs.Names.{NamesHere, Numbers};
-ghost use Rattle.body.specs.Body.{Whole};
-ghost use Rattle.equations.specs.Equations.{side_notes, LeftGiven, OutputGiven, output_notes, OutputsGiven, outputs_notes, SidesGiven, tuple_notes, bound_notes, type_notes, EquationGiven, EquationChecked, EquationHere, EdgesAdded};
+ghost use Rattle.body.specs.Body.{Side};
+ghost use Rattle.equations.specs.Equations.{ScopedOf, LeftOf, OutputOf, OutputsOf, SidesOf, EquationOf, side_notes, output_notes, outputs_notes, tuple_notes, bound_notes, type_notes, EquationChecked, EquationHere, EdgesAdded};
 
-use body::{Passed, check_pre, contains_temporal, immediate_reads, nested_iterators};
+use body::{check_pre, contains_temporal, immediate_reads, nested_iterators};
 use infer::infer;
-use lines::{Spot, put_line};
-use loops::join_row;
-use lustre::{NONE, codes};
-use rules::hints::{hint_of, no_hint};
+use lines::{Lines, Spot};
+use loops::{NameSet, join_row};
+use lustre::{NONE, Records, codes, kinds};
+use rules::declared;
 use rules::ports::{ports_end, type_end};
-use scope::{NODES, PORTS, has_name, repeated_name};
+use scope::repeated_name;
 use standing::skip;
-use types::aliases::compatible;
 use types::records::read_type;
-use types::{Hint, Typ, is_tuple};
-
-// The kind of a call's record.
-const CALL: u8 = 70;
+use types::{Context, Scope, Typ};
 
 // The line of an assigned name that is no port or local, or is an input: E0020 or E0022.
-fn check_known(scope: &[u64], ins: &[u64], name: u64, q: Spot, out: &mut [u64], n: u64) -> u64
-    requires { (length scope.now ≡ 3072) × (8 ≤ length ins.now) × (name < 512) }
-    ensures { (num : Name → ℕ) (x : Name) → num x ≡ name → Noted num q (if◌then◌else◌ (eqb (get_or scope.now (name + 2560) 0) 0) (about 20 x ∷ []) (if◌then◌else◌ (has ins.now 0 name) (about 22 x ∷ []) [])) out.old n result out.new }
+fn check_known(scope: &Scope, ins: &NameSet, name: u64, q: Spot, lines: &mut Lines)
+    requires { name < 512 }
+    ensures { (num : Name → ℕ) (x : Name) → num x ≡ name →
+        Noted num q (if eqb (get_or scope.now.entries (name + 2560) 0) 0 then about 20 x ∷ []
+        else if has ins.now.bits 0 name then about 22 x ∷ [] else []) lines.old lines.new }
 {
-    let i = name as usize;
-    if scope[i + PORTS] == 0 {
-        return put_line(out, q, n, codes::E0020, NONE, name);
+    if declared(scope, Scope::PORTS, name).is_none() {
+        lines.put(q, codes::E0020, NONE, name);
+    } else if ins.contains(name) {
+        lines.put(q, codes::E0022, NONE, name);
     }
-    if has_name(ins, name) {
-        return put_line(out, q, n, codes::E0022, NONE, name);
-    }
-    n
 }
 
 // The lines of the assigned names in the list at a place, name by name, lib.rs 383: E0020 or E0022, then E0021 where the set `assigned` has
 // the name already. Then the set has it.
+#[tactic(auto, using(crate::proofs::Names::names_inside, crate::proofs::Names::names_small))]
 fn check_names(
-    words: &[u64],
-    scope: &[u64],
+    ctx: &Context,
     list: usize,
-    ins: &[u64],
-    assigned: &mut [u64],
+    ins: &NameSet,
+    assigned: &mut NameSet,
     q: Spot,
-    out: &mut [u64],
-    n: u64,
-) -> u64
-    requires { NamesHere words.now list × (length scope.now ≡ 3072) × (8 ≤ length ins.now) × (8 ≤ length assigned.old) }
-    ensures { ((g : NamesHere words.now list) (num : Name → ℕ) → Numbers g.text num → (as' : List (Name × Ty)) (rs : List (Name × List Port)) (vs : List (Name × Name)) (cs : List (Name × Ty)) (ns : List (Name × Heading)) (env : List Port) → Tables (source g.ks words.now g.text) as' rs vs cs ns env scope.now → (inputs seen : List Name) → Holds g.text inputs ins.now → Holds g.text seen assigned.old → Noted num q (assigns (port_names env) inputs seen g.xs) out.old n result out.new) × ((g : NamesHere words.now list) → Injective g.text → (seen : List Name) → Holds g.text seen assigned.old → Holds g.text (g.xs ++ seen) assigned.new) }
+    lines: &mut Lines,
+)
+    requires { NamesHere ctx.now.records.words.now list }
+    ensures noted { (g : NamesHere ctx.now.records.words.now list) (num : Name → ℕ) → Numbers g.text num →
+        (as' : List (Name × Ty)) (rs : List (Name × List Port)) (vs : List (Name × Name)) (cs : List (Name × Ty)) (ns : List (Name × Heading)) (env : List Port) →
+        Tables (source g.ks ctx.now.records.words.now g.text) as' rs vs cs ns env ctx.now.scope.now.entries →
+        (inputs seen : List Name) → Holds g.text inputs ins.now.bits → Holds g.text seen assigned.old.bits →
+        Noted num q (assigns (port_names env) inputs seen g.xs) lines.old lines.new }
+    ensures held { (g : NamesHere ctx.now.records.words.now list) → Injective g.text → (seen : List Name) →
+        Holds g.text seen assigned.old.bits → Holds g.text (g.xs ++ seen) assigned.new.bits }
 {
-    let mut left = words[list];
-    let mut next = list + 1;
-    let mut m = n;
-    while left > 0 {
-        let name = words[next];
-        let k = check_known(scope, ins, name, q, out, m);
-        m = repeated_name(assigned, name, codes::E0021, q, out, k);
-        next += 1;
-        left -= 1;
+    let words = ctx.records.words;
+    let end = list + 1 + words[list] as usize;
+    for name in &words[list + 1..end] {
+        check_known(ctx.scope, ins, *name, q, lines);
+        repeated_name(assigned, *name, codes::E0021, q, lines);
     }
-    m
 }
 
 // The line of a function's right-hand side that has a temporal operator: E0030.
-fn check_temporal(kinds: &[u8], end: usize, q: Spot, out: &mut [u64], n: u64) -> u64
-    requires { Whole kinds.now end }
-    ensures { (num : Name → ℕ) (g : Whole kinds.now end) → Noted num q (if◌then◌else◌ (q.function && contains_temporal g.e) (bare 30 ∷ []) []) out.old n result out.new }
+fn check_temporal(kinds: &[u8], q: Spot, lines: &mut Lines)
+    requires { Side kinds.now }
+    ensures { (num : Name → ℕ) (g : Side kinds.now) →
+        Noted num q (if q.function && contains_temporal g.whole.e then bare 30 ∷ [] else []) lines.old lines.new }
 {
-    if q.function {
-        if contains_temporal(kinds, end) {
-            return put_line(out, q, n, codes::E0030, NONE, NONE);
-        }
+    if q.function && contains_temporal(kinds) {
+        lines.put(q, codes::E0030, NONE, NONE);
     }
-    n
 }
 
-// The lines of a right-hand side beside its type, and the record behind it: E0030 in a function, E0070 and E0146.
-fn check_side(kinds: &[u8], words: &[u64], start: usize, q: Spot, out: &mut [u64], n: u64) -> Passed
-    requires { There kinds.now words.now start }
-    ensures { (g : There kinds.now words.now start) (num : Name → ℕ) → (result.next ≡ start + size g.e) × Noted num q (side_notes q.function g.e) out.old n result.n out.new }
+// The lines of the right-hand side at a place beside its type: E0030 in a function, E0070 and E0146; and the record behind it.
+fn check_side(records: &Records, start: usize, q: Spot, lines: &mut Lines) -> usize
+    requires { There records.now.kinds.now records.now.words.now start }
+    ensures { (g : There records.now.kinds.now records.now.words.now start) (num : Name → ℕ) →
+        (result ≡ start + size g.e) × Noted num q (side_notes q.function g.e) lines.old lines.new }
 {
-    let next = skip(kinds, words, start);
-    let end = next - start;
-    let rk = &kinds[start..];
-    let rw = &words[start..];
-    let m = check_temporal(rk, end, q, out, n);
-    let p = check_pre(rk, rw, 0, false, q, out, m);
-    let l = nested_iterators(rk, end, q, out, p.n);
-    Passed { next, n: l }
+    let next = skip(records, start);
+    let kinds = &records.kinds[start..next];
+    check_temporal(kinds, q, lines);
+    let side = Records {
+        kinds: &records.kinds[start..],
+        words: &records.words[start..],
+    };
+    check_pre(&side, 0, false, q, lines);
+    nested_iterators(kinds, q, lines);
+    next
+}
+
+// The declared type of the name of a port or local, if it is one.
+fn port_type(ctx: &Context, name: u64) -> Option<Typ>
+    requires scoped { ScopedOf ctx.now }
+    requires small { name < 512 }
+    ensures { (w : ScopedOf ctx.now) → HintIs w.model.text (lookup (w.model.text name) w.env) 67 result }
+{
+    let port = declared(ctx.scope, Scope::PORTS, name)?;
+    Some(read_type(&ctx.records, port + 1).typ)
 }
 
 // The declared type of the one name in the list at a place, as the hint for its right-hand side, lib.rs 424; no hint for none or several.
-fn declared_type(kinds: &[u8], words: &[u64], scope: &[u64], list: usize) -> Hint
-    requires { LeftGiven kinds.now words.now scope.now list }
-    ensures { (g : LeftGiven kinds.now words.now scope.now list) → HintIs g.scoped.model.text (wanted g.scoped.env g.xs) 67 result }
+fn declared_type(ctx: &Context, list: usize) -> Option<Typ>
+    requires { LeftOf ctx.now list }
+    ensures { (g : LeftOf ctx.now list) → HintIs g.scoped.model.text (wanted g.scoped.env g.xs) 67 result }
 {
+    let words = ctx.records.words;
     if words[list] != 1 {
-        return no_hint();
+        return None;
     }
-    let i = words[list + 1] as usize;
-    let e = scope[i + PORTS];
-    if e == 0 {
-        return no_hint();
-    }
-    let r = read_type(kinds, words, e as usize);
-    hint_of(r.typ)
+    port_type(ctx, words[list + 1])
 }
 
 // The line of a name whose declared type is not that of the output whose type stands at a place, request 2.8: E0043. An unknown name gets none.
-fn check_output(
-    kinds: &[u8],
-    words: &[u64],
-    scope: &[u64],
-    name: u64,
-    at: usize,
-    q: Spot,
-    out: &mut [u64],
-    n: u64,
-) -> u64
-    requires { OutputGiven kinds.now words.now scope.now at × (name < 512) }
-    ensures { (g : OutputGiven kinds.now words.now scope.now at) → Noted g.scoped.model.number q (output_notes g name) out.old n result out.new }
+fn check_output(ctx: &Context, name: u64, at: usize, q: Spot, lines: &mut Lines)
+    requires output { OutputOf ctx.now at }
+    requires small { name < 512 }
+    ensures { (g : OutputOf ctx.now at) → Noted g.scoped.model.number q (output_notes g name) lines.old lines.new }
 {
-    let i = name as usize;
-    let e = scope[i + PORTS];
-    if e == 0 {
-        return n;
+    if let Some(want) = port_type(ctx, name) {
+        let got = read_type(&ctx.records, at).typ;
+        if !ctx.compatible(&want, &got) {
+            lines.put(q, codes::E0043, NONE, name);
+        }
     }
-    let want = read_type(kinds, words, e as usize);
-    let got = read_type(kinds, words, at);
-    if compatible(kinds, words, scope, want.typ, got.typ) {
-        return n;
-    }
-    put_line(out, q, n, codes::E0043, NONE, name)
-}
-
-// The lower of two numbers.
-fn lower(a: u64, b: u64) -> u64
-    ensures { result ≡ min a b }
-{
-    if a < b {
-        return a;
-    }
-    b
 }
 
 // The lines of the names in one list, each beside the output at its position in another, to the end of the shorter.
-fn check_outputs(
-    kinds: &[u8],
-    words: &[u64],
-    scope: &[u64],
-    list: usize,
-    outputs: usize,
-    q: Spot,
-    out: &mut [u64],
-    n: u64,
-) -> u64
-    requires { OutputsGiven kinds.now words.now scope.now list outputs }
-    ensures { (g : OutputsGiven kinds.now words.now scope.now list outputs) → Noted g.left.scoped.model.number q (outputs_notes g) out.old n result out.new }
+fn check_outputs(ctx: &Context, list: usize, outputs: usize, q: Spot, lines: &mut Lines)
+    requires { OutputsOf ctx.now list outputs }
+    ensures { (g : OutputsOf ctx.now list outputs) → Noted g.left.scoped.model.number q (outputs_notes g) lines.old lines.new }
 {
-    let mut left = lower(words[list], words[outputs]);
-    let mut next = list + 1;
+    let words = ctx.records.words;
+    let end = list + 1 + words[list].min(words[outputs]) as usize;
     let mut port = outputs + 1;
-    let mut m = n;
-    while left > 0 {
-        m = check_output(kinds, words, scope, words[next], port + 1, q, out, m);
-        next += 1;
-        port = type_end(kinds, words, port + 1);
-        left -= 1;
+    for name in &words[list + 1..end] {
+        check_output(ctx, *name, port + 1, q, lines);
+        port = type_end(&ctx.records, port + 1);
     }
-    m
 }
 
 // The lines of a right-hand side that is a tuple of so many members, request 2.8: E0042 where there is another number of names, else E0043
 // where it is itself a call, whose outputs stand behind its inputs.
-fn check_tuple(
-    kinds: &[u8],
-    words: &[u64],
-    scope: &[u64],
-    list: usize,
-    start: usize,
-    members: u64,
-    q: Spot,
-    out: &mut [u64],
-    n: u64,
-) -> u64
-    requires { SidesGiven kinds.now words.now scope.now list start }
-    ensures { (g : SidesGiven kinds.now words.now scope.now list start) → Noted g.left.scoped.model.number q (tuple_notes g members) out.old n result out.new }
+fn check_tuple(ctx: &Context, list: usize, start: usize, members: u64, q: Spot, lines: &mut Lines)
+    requires { SidesOf ctx.now list start }
+    ensures { (g : SidesOf ctx.now list start) → Noted g.left.scoped.model.number q (tuple_notes g members) lines.old lines.new }
 {
-    if members != words[list] {
-        return put_line(out, q, n, codes::E0042, NONE, NONE);
+    let records = &ctx.records;
+    if members != records.words[list] {
+        lines.put(q, codes::E0042, NONE, NONE);
+        return;
     }
-    if kinds[start] != CALL {
-        return n;
+    if records.kinds[start] != kinds::CALL {
+        return;
     }
-    let i = words[start] as usize;
-    let e = scope[i + NODES];
-    if e == 0 {
-        return n;
+    if let Some(node) = declared(ctx.scope, Scope::NODES, records.words[start]) {
+        let outputs = ports_end(records, node + 1);
+        check_outputs(ctx, list, outputs, q, lines);
     }
-    let outputs = ports_end(kinds, words, e as usize);
-    check_outputs(kinds, words, scope, list, outputs, q, out, n)
 }
 
 // The lines of a right-hand side at a place whose type t does not fit the names assigned, lib.rs 440 to 472: E0042 and E0043 of a tuple, else
 // E0040 or E0041. `hint` is the declared type of the one name.
 fn check_bound(
-    kinds: &[u8],
-    words: &[u64],
-    scope: &[u64],
+    ctx: &Context,
     list: usize,
     start: usize,
-    hint: Hint,
-    t: Typ,
+    hint: Option<Typ>,
+    t: &Typ,
     q: Spot,
-    out: &mut [u64],
-    n: u64,
-) -> u64
-    requires { SidesGiven kinds.now words.now scope.now list start × (hint.typ.levels ≤ 127) }
-    ensures { (g : SidesGiven kinds.now words.now scope.now list start) → asHint g.left.scoped.model.text hint ≡ wanted g.left.scoped.env g.left.xs → Noted g.left.scoped.model.number q (bound_notes g (some (asTy g.left.scoped.model.text t))) out.old n result out.new }
+    lines: &mut Lines,
+)
+    requires { SidesOf ctx.now list start }
+    ensures { (g : SidesOf ctx.now list start) → asHint g.left.scoped.model.text hint ≡ wanted g.left.scoped.env g.left.xs →
+        Noted g.left.scoped.model.number q (bound_notes g (some (asTy g.left.scoped.model.text t.now))) lines.old lines.new }
 {
-    if is_tuple(t) {
-        return check_tuple(kinds, words, scope, list, start, t.name, q, out, n);
+    let words = ctx.records.words;
+    if let Some(members) = t.members() {
+        check_tuple(ctx, list, start, members, q, lines);
+    } else if words[list] != 1 {
+        lines.put(q, codes::E0041, NONE, NONE);
+    } else if let Some(want) = hint {
+        if !ctx.compatible(&want, t) {
+            lines.put(q, codes::E0040, NONE, words[list + 1]);
+        }
     }
-    if words[list] != 1 {
-        return put_line(out, q, n, codes::E0041, NONE, NONE);
-    }
-    if !hint.given {
-        return n;
-    }
-    let want = hint.typ;
-    if compatible(kinds, words, scope, want, t) {
-        return n;
-    }
-    put_line(out, q, n, codes::E0040, NONE, words[list + 1])
 }
 
 // The lines of a right-hand side's type, for the names in the list at a place: those of inference, then E0040 to E0043.
-fn check_type(
-    kinds: &[u8],
-    words: &[u64],
-    scope: &[u64],
-    list: usize,
-    start: usize,
-    q: Spot,
-    out: &mut [u64],
-    n: u64,
-) -> u64
-    requires { SidesGiven kinds.now words.now scope.now list start }
-    ensures { (g : SidesGiven kinds.now words.now scope.now list start) → Noted g.left.scoped.model.number q (type_notes g q.function) out.old n result out.new }
+fn check_type(ctx: &Context, list: usize, start: usize, q: Spot, lines: &mut Lines)
+    requires { SidesOf ctx.now list start }
+    ensures { (g : SidesOf ctx.now list start) → Noted g.left.scoped.model.number q (type_notes g q.function) lines.old lines.new }
 {
-    let hint = declared_type(kinds, words, scope, list);
-    let rk = &kinds[start..];
-    let rw = &words[start..];
-    let r = infer(kinds, words, scope, rk, rw, 0, hint, q, out, n);
-    if r.ok {
-        return check_bound(kinds, words, scope, list, start, hint, r.typ, q, out, r.n);
+    let hint = declared_type(ctx, list);
+    let side = Records {
+        kinds: &ctx.records.kinds[start..],
+        words: &ctx.records.words[start..],
+    };
+    if let Some(value) = infer(ctx, &side, 0, hint, q, lines) {
+        check_bound(ctx, list, start, hint, &value.typ, q, lines);
     }
-    r.n
 }
 
 // The lines of the equation at a place, and the record behind it. `ins` has the names of the inputs, and `assigned` those assigned before.
 pub fn check_equation(
-    kinds: &[u8],
-    words: &[u64],
-    scope: &[u64],
+    ctx: &Context,
     at: usize,
-    ins: &[u64],
-    assigned: &mut [u64],
+    ins: &NameSet,
+    assigned: &mut NameSet,
     q: Spot,
-    out: &mut [u64],
-    n: u64,
-) -> Passed
-    requires { EquationGiven kinds.now words.now scope.now at × (8 ≤ length ins.now) × (8 ≤ length assigned.old) }
-    ensures { (g : EquationGiven kinds.now words.now scope.now at) → EquationChecked g q ins.now assigned.old out.old n result assigned.new out.new }
+    lines: &mut Lines,
+) -> usize
+    requires { EquationOf ctx.now at }
+    ensures { (g : EquationOf ctx.now at) → EquationChecked g q ins.now.bits assigned.old.bits lines.old result assigned.new.bits lines.new }
 {
     let list = at + 1;
-    let m = check_names(words, scope, list, ins, assigned, q, out, n);
-    let start = list + 1 + words[list] as usize;
-    let s = check_side(kinds, words, start, q, out, m);
-    let l = check_type(kinds, words, scope, list, start, q, out, s.n);
-    let next = s.next;
-    Passed { next, n: l }
+    check_names(ctx, list, ins, assigned, q, lines);
+    let start = list + 1 + ctx.records.words[list] as usize;
+    let next = check_side(&ctx.records, start, q, lines);
+    check_type(ctx, list, start, q, lines);
+    next
 }
 
 // Adds an edge from each name in the list at a place to each name of the set `row`.
-fn join_names(words: &[u64], list: usize, row: &[u64], graph: &mut [u64])
-    requires { NamesHere words.now list × (8 ≤ length row.now) × (4096 ≤ length graph.old) }
-    ensures { (g : NamesHere words.now list) → Injective g.text → (a b : ℕ) → a < 512 → b < 512 → has graph.new a b ≡ (has graph.old a b || ((g.text a among g.xs) && has row.now 0 b)) }
+#[tactic(auto, using(crate::proofs::Names::names_inside, crate::proofs::Names::names_small))]
+fn join_names(words: &[u64], list: usize, row: &NameSet, graph: &mut [u64])
+    requires names { NamesHere words.now list }
+    requires room { 4096 ≤ length graph.old }
+    ensures { (g : NamesHere words.now list) → Injective g.text → (a b : ℕ) → a < 512 → b < 512 →
+        has graph.new a b ≡ (has graph.old a b || ((g.text a among g.xs) && has row.now.bits 0 b)) }
 {
-    let mut left = words[list];
-    let mut next = list + 1;
-    while left > 0 {
-        join_row(graph, words[next] as usize, row);
-        next += 1;
-        left -= 1;
+    let end = list + 1 + words[list] as usize;
+    for name in &words[list + 1..end] {
+        join_row(graph, *name as usize, row);
     }
 }
 
 // Adds the edges of the equation at a place to the graph.
-pub fn add_edges(kinds: &[u8], words: &[u64], at: usize, graph: &mut [u64])
-    requires { EquationHere kinds.now words.now at × (4096 ≤ length graph.old) }
-    ensures { (g : EquationHere kinds.now words.now at) → Injective g.text → EdgesAdded g.text g.eq graph.old graph.new }
+pub fn add_edges(records: &Records, at: usize, graph: &mut [u64])
+    requires equation { EquationHere records.now.kinds.now records.now.words.now at }
+    requires room { 4096 ≤ length graph.old }
+    ensures { (g : EquationHere records.now.kinds.now records.now.words.now at) → Injective g.text → EdgesAdded g.text g.eq graph.old graph.new }
 {
-    let mut row = [0u64; 8];
+    let mut row = NameSet::new();
     let list = at + 1;
-    let start = list + 1 + words[list] as usize;
-    immediate_reads(kinds, words, start, &mut row);
-    join_names(words, list, &row, graph);
+    let start = list + 1 + records.words[list] as usize;
+    immediate_reads(records, start, &mut row);
+    join_names(records.words, list, &row, graph);
 }

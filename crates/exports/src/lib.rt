@@ -6,14 +6,15 @@
 ghost use Rattle.exports.specs.Export.{Told, Answered, AnsweredLines};
 
 use checker::check_project;
-use lustre::{Answer, Line, as_numbers};
+use lustre::{Answer, Line, Numbers};
 use project::check;
 
 // Hands an answer out as numbers: 0 for a report or the refusal's number, and by reference the other two.
+// Kept: C has no enums that hold values, so an answer goes out as numbers, and kinds, words and lines are lent one by one.
 fn tell(a: Answer, first: &mut u64, second: &mut u64) -> u64
     ensures { Told a result first.new second.new }
 {
-    let n = as_numbers(a);
+    let n = Numbers::from(a);
     *first = n.first;
     *second = n.second;
     n.refusal

@@ -1,74 +1,48 @@
 -- What a caller of `decode`, `kinds_in` and `text_in` knows of a file: where refusal 1's number of words is lent, a wrong file holds
 -- nothing, and any other holds its kinds, the decoded words and its text.
 -- Assumes nothing.
-use Prim.Native.Nat.{ℕ, ◌≤◌}
+use Rattle.std.specs.Prelude.{Some, None}
+use Rattle.std.specs.Prelude as Rust
+use Prim.Native.Nat.{ℕ, ◌+◌, ◌≤◌, ◌<◌}
 use native.Mathlib.Omega.{arith}
-use mathlib.Core.Path.{◌≡◌, refl, sym, ap, ◌∙◌}
-use mathlib.Core.Bool.{Bool, true, false}
+use native.Mathlib.Decide.{dec_lt}
+use mathlib.Core.Path.{◌≡◌, sym, ap, ◌∙◌}
 use mathlib.Core.List.{List}
-use mathlib.Core.Option.{Option, none, some}
-use borrow.Author.Tests.{leb-false}
-use lib.Dec.{leb}
+use mathlib.Core.Option.{none, some}
 use lib.ListN.{length, take, drop}
 use lib.Seq.{take_at}
-use Rattle.format.specs.File.{Model, parts, parse, kinds_of, text_of, decoded, words_after, Decoded}
-use Rattle.format.specs.declared.File.{File}
-use Rattle.format.specs.declared.File.TheVariants.{Wrong, Parts}
-use Rattle.format.proofs.Files.{Either, nothing, model, either, kinds_length, words_known}
+use Rattle.format.specs.File.{parts, parse, kinds_of, text_of, words_in, Decoded}
+use Rattle.format.specs.declared.Sizes.{Sizes}
+use Rattle.format.proofs.Files.{Either, nothing, model, either, sizes_known, sizes_none, words_length, decoded_lost, decoded_short, decoded_stored}
 use Rattle.format.proofs.Written.{model_as}
 
--- with so many words lent, wrong means that there is more of them
-wrong_room : (m : Model) (room : ℕ) (r : File) → r ≡ decoded (some m) room → r ≡ Wrong → leb (length m.words) room ≡ false
-unfolding decoded
-wrong_room m room r e w = go (leb (length m.words) room) refl
-  where
-    go : (b : Bool) → leb (length m.words) room ≡ b → leb (length m.words) room ≡ false
-    go true t =
-        let p : Wrong ≡ Parts (length m.kinds) (length m.text) = sym w ∙ e ∙ simp t in
-        let z : ◌≡◌ {A = ℕ} 0 1 = cc in
-        absurd (omega arith)
-    go false t = t
+-- no sizes are no answer with sizes
+not_both : {s : Sizes} {r : Rust.Option Sizes} → None ≡ r → Some s ≡ r → ⊥
+not_both {s} e i = let w : ◌≡◌ {A = Rust.Option Sizes} None (Some s) = e ∙ sym i in cc
 
 -- a wrong file holds nothing
-pub decoded_wrong : (file : List ℕ) (room : ℕ) (r : File) → 4096 ≤ room → r ≡ decoded (parse file) room → r ≡ Wrong → parse file ≡ none
-decoded_wrong file room r h e w = go (either file)
+pub decoded_none : (file lent words : List ℕ) → 4096 ≤ length lent → Decoded file lent None words → parse file ≡ none
+decoded_none file lent words h d = go (either file)
   where
     go : Either file → parse file ≡ none
-    go (nothing n) = n
-    go (model n t k) =
-        let l = leb-false (length (parts file n t).words) room (wrong_room (parts file n t) room r (e ∙ ap (λ (o : Option Model). decoded o room) k.parsed) w) in
-        absurd (omega (arith, words_known file n t, k.few))
+    go (nothing e) = e
+    go (model n t k) = absurd (not_both d.answer (decoded_stored file lent _ (sym (sizes_known k)) (omega (arith, k.few))).answer)
 
--- what was decoded, of a file whose words are as many as its kinds
-stored_words : (m : Model) (lent words : List ℕ) (n t : ℕ) (r : File) → length m.words ≡ length m.kinds → r ≡ decoded (some m) (length lent) → words ≡ words_after (some m) lent → r ≡ Parts n t → take n words ≡ m.words
-unfolding decoded words_after
-stored_words m lent words n t r same e s w = go (leb (length m.words) (length lent)) refl
+-- any other file has few records, and holds its kinds, the decoded words and its text
+pub decoded_some : (file lent words : List ℕ) (s : Sizes) → Decoded file lent (Some s) words
+    → (s.records ≤ 4096) × (parse file ≡ some (record { kinds = kinds_of (parse file); words = take s.records words; text = text_of (parse file) }))
+unfolding kinds_of text_of parts
+decoded_some file lent words s d = go (either file)
   where
-    go : (b : Bool) → leb (length m.words) (length lent) ≡ b → take n words ≡ m.words
-    go true y =
-        let p : Parts n t ≡ Parts (length m.kinds) (length m.text) = sym w ∙ e ∙ simp y in
-        let k : n ≡ length m.kinds = cc in
-        ap (take n) (s ∙ simp y) ∙ take_at m.words (drop (length m.words) lent) n (same ∙ sym k)
-    go false y =
-        let p : Parts n t ≡ Wrong = sym w ∙ e ∙ simp y in
-        let z : ◌≡◌ {A = ℕ} 0 1 = cc in
-        absurd (omega arith)
-
--- a file that holds nothing has no sizes
-not_parts : (n t room : ℕ) → Parts n t ≡ decoded none room → ⊥
-unfolding decoded
-not_parts n t room e = let z : ◌≡◌ {A = ℕ} 0 1 = cc in omega arith
-
--- any other file holds its kinds, the decoded words and its text
-pub decoded_parts : (file lent words : List ℕ) (n t : ℕ) (r : File) → Decoded file lent r words → r ≡ Parts n t
-    → parse file ≡ some (record { kinds = kinds_of (parse file); words = take n words; text = text_of (parse file) })
-unfolding kinds_of text_of
-decoded_parts file lent words n t r d w = go (either file)
-  where
-    go : Either file → parse file ≡ some (record { kinds = kinds_of (parse file); words = take n words; text = text_of (parse file) })
-    go (nothing e) = absurd (not_parts n t (length lent) (sym w ∙ d.answer ∙ ap (λ (o : Option Model). decoded o (length lent)) e))
-    go (model a b k) =
-        let p = k.parsed in
-        p ∙ sym (ap some (model_as (parts file a b) _ _ _ (ap kinds_of p)
-        (stored_words (parts file a b) lent words n t r (words_known file a b ∙ sym (kinds_length k)) (d.answer ∙ ap (λ (o : Option Model). decoded o (length lent)) p) (d.stored ∙ ap (λ (o : Option Model). words_after o lent) p) w)
-        (ap text_of p)))
+    go : Either file → (s.records ≤ 4096) × (parse file ≡ some (record { kinds = kinds_of (parse file); words = take s.records words; text = text_of (parse file) }))
+    go (nothing e) = absurd (not_both (decoded_lost file lent (sizes_none file e)).answer d.answer)
+    go (model n t k) = by (dec_lt (length lent) n)
+      where
+        by : Dec (length lent < n) → (s.records ≤ 4096) × (parse file ≡ some (record { kinds = kinds_of (parse file); words = take s.records words; text = text_of (parse file) }))
+        by (yes h) = absurd (not_both (decoded_short file lent _ (sym (sizes_known k)) h).answer d.answer)
+        by (no h) =
+            let stored = decoded_stored file lent _ (sym (sizes_known k)) (omega arith) in
+            let same : Some s ≡ Some (record { records = n; text = t }) = d.answer ∙ sym stored.answer in
+            let is : s.records ≡ n = cc in
+            let front : take s.records words ≡ words_in n (drop (8 + n) file) = ap (take s.records) (d.stored ∙ sym stored.stored) ∙ take_at (words_in n (drop (8 + n) file)) (drop n lent) s.records (words_length n (drop (8 + n) file) ∙ sym is) in
+            (omega (arith, k.few), k.parsed ∙ sym (ap some (model_as (parts file n t) _ _ _ (ap kinds_of k.parsed) front (ap text_of k.parsed))))

@@ -9,7 +9,7 @@ use mathlib.Core.List.{List, [], ◌∷◌, ◌++◌}
 use borrow.Author.Tests.{ltb-true, ltb-false}
 use lib.Dec.{ltb}
 use Rattle.format.specs.Output.{digits, decimal}
-use Rattle.format.proofs.Puts.{digits_last, digits_step}
+use Rattle.format.proofs.Pieces.{digits_last, digits_step}
 
 -- the number that decimal digits are, behind the number of those read so far
 abbrev pub valued : ℕ → List ℕ → ℕ

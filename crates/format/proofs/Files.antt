@@ -1,60 +1,58 @@
--- Laws of numbers and words out of bytes. A number is read from its last byte on, the words from the first on.
+-- Laws of the numbers, words and parts that a file holds.
 -- Assumes nothing.
-use Rattle.std.specs.Prelude.{if◌then◌else◌}
-use Prim.Native.Nat.{ℕ, zero, suc, ◌+◌, ◌*◌, ◌-◌, ◌^◌, ◌≤◌, ◌<◌}
-use native.Mathlib.Nat.{pow-suc, pow-le-pow_right}
+use Rattle.std.specs.Prelude.{if◌then◌else◌, Some, None}
+use Rattle.std.specs.Prelude as Rust
+use Prim.Native.Nat.{ℕ, zero, suc, ◌+◌, ◌*◌, ◌-◌, ◌/◌, ◌≤◌, ◌<◌}
 use native.Mathlib.Omega.{arith}
 use native.Mathlib.Decide.{dec_lt}
 use mathlib.Core.Path.{◌≡◌, refl, sym, ap, ◌∙◌}
 use mathlib.Core.List.{List, [], ◌∷◌, ◌++◌}
 use mathlib.Core.Bool.{Bool, true, false, ◌&&◌}
-use mathlib.Core.Option.{Option, some, none}
+use mathlib.Core.Option.{some, none}
 use borrow.Author.Tests.{leb-true, eqb-true, le-leb, lt-leb, eq-eqb, ne_eqb}
 use lib.Dec.{leb, eqb}
-use lib.ListN.{length, get_or, take, drop, set, length-set, length-drop, drop_of_length-le}
-use lib.Seq.{drop-cons, drop-length, drop-drop, set_at, append_snoc, length-take-le, take_all}
-use Rattle.format.specs.File.{number_in, words_in, records_in, text_in, right, Model, parts, parse, sizes_of, kinds_of, text_of, decoded, words_after, Decoded}
-use Rattle.format.specs.declared.File.TheVariants.{Wrong, Parts}
-use Rattle.format.specs.declared.File.{File}
+use lib.ListN.{length, get_or, take, drop, set, length-take, length-drop, drop_of_length-le}
+use lib.Seq.{drop-drop, length-take-le}
+use Rattle.std.specs.Int.{w32, w64, from_le_bytes}
+use Rattle.std.specs.Simd.{first_chunks}
+use Rattle.std.proofs.lemmas.List.{take_more_set}
+use Rattle.std.proofs.lemmas.Grind.{common_steps}
+use native.Mathlib.Numerals.{add-one}
+use Rattle.format.specs.File.{number_in, words_in, records_in, text_in, right, parts, parse, sizes_of, kinds_of, text_of, decoded, words_after, Decoded}
+use Rattle.format.specs.declared.Sizes.{Sizes}
 
--- n is the number of the bytes from `left` on, of which there are few enough
-pub record Read (bs : List ℕ) (n left : ℕ) : Type 0 where
-  pub value : n ≡ number_in (drop left bs)
-  pub within : left ≤ length bs
-  pub small : n < 256 ^ (length bs - left)
-
--- nothing is read at first
-pub read_start : (bs : List ℕ) → Read bs 0 (length bs)
+-- a number is its first byte and 256 times the number of the others
+number_step : (bs : List ℕ) (k : ℕ) → number_in (drop k bs) ≡ get_or bs k 0 + 256 * number_in (drop (suc k) bs)
 unfolding number_in
-read_start bs =
-    let e : length bs - length bs ≡ 0 = omega arith in
-    record { value = ap number_in (sym (drop-length bs)); within = omega arith; small = simp e (omega arith) }
+number_step [] zero = refl
+number_step [] (suc k) = refl
+number_step (b ∷ bs) zero = refl
+number_step (b ∷ bs) (suc k) = number_step bs k
 
--- at most seven bytes: a number below 2^56
-pub read_few : {bs : List ℕ} {n left : ℕ} → Read bs n left → length bs ≤ 8 → 0 < left → n < 72057594037927936
-read_few {bs} {n} {left} r h l =
-    let few : length bs - left ≤ 7 = omega arith in
-    let k : 256 ^ (length bs - left) ≤ 256 ^ 7 = pow-le-pow_right (omega arith) few in
-    omega (arith, r.small)
-
--- one byte more in front
-pub read_more : {bs : List ℕ} {n left b : ℕ} → Read bs n left → 0 < left → b ≡ get_or bs (left - 1) 0 → b < 256 → Read bs (b + 256 * n) (left - 1)
+-- four bytes are read as their number
+pub number_four : (bs : List ℕ) → length bs ≡ 4 → from_le_bytes w32 bs ≡ number_in bs
 unfolding number_in
-read_more {bs} {n} {left} {b} r l e h =
-    let up : suc (left - 1) ≡ left = omega arith in
-    let width : length bs - (left - 1) ≡ suc (length bs - left) = omega (arith, r.within) in
-    record {
-      value = sym (ap number_in (drop-cons bs (left - 1) 0 (omega (arith, r.within))) ∙ ap (λ (k : ℕ). get_or bs (left - 1) 0 + 256 * number_in (drop k bs)) up ∙ ap (λ (m : ℕ). get_or bs (left - 1) 0 + 256 * m) (sym r.value) ∙ ap (λ (m : ℕ). m + 256 * n) (sym e));
-      within = omega (arith, r.within);
-      small = simp (width, pow-suc) (omega (arith, r.small));
-    }
+number_four bs h =
+    let end : number_in (drop 4 bs) ≡ 0 = ap number_in (drop_of_length-le bs {i = 4} (omega arith)) in
+    omega (arith, number_step bs 0, number_step bs 1, number_step bs 2, number_step bs 3)
 
--- all is read
-pub read_all : {bs : List ℕ} {n left : ℕ} → Read bs n left → left ≤ 0 → n ≡ number_in bs
-read_all {bs} {n} {left} r h = let z : left ≡ 0 = omega arith in r.value ∙ ap (λ (k : ℕ). number_in (drop k bs)) z
+-- and eight
+number_eight : (bs : List ℕ) → length bs ≡ 8 → from_le_bytes w64 bs ≡ number_in bs
+unfolding number_in
+number_eight bs h =
+    let end : number_in (drop 8 bs) ≡ 0 = ap number_in (drop_of_length-le bs {i = 8} (omega arith)) in
+    omega (arith, number_step bs 0, number_step bs 1, number_step bs 2, number_step bs 3, number_step bs 4, number_step bs 5, number_step bs 6, number_step bs 7)
+
+-- the i-th eight bytes
+eight_at : (n i : ℕ) (bs d : List ℕ) → i < n → get_or (first_chunks 8 n bs) i d ≡ take 8 (drop (8 * i) bs)
+eight_at zero i bs d h = elim h [ ]
+eight_at (suc n) zero bs d h = refl
+eight_at (suc n) (suc i) bs d h =
+    let e : 8 + 8 * i ≡ 8 * suc i = omega arith in
+    eight_at n i (drop 8 bs) d (omega arith) ∙ ap (take 8) (drop-drop (8 * i) 8 bs ∙ ap (λ k. drop k bs) e)
 
 -- the words of n + 1 are those of n and one more
-pub words_more : (n : ℕ) (bs : List ℕ) → words_in (suc n) bs ≡ words_in n bs ++ number_in (take 8 (drop (8 * n) bs)) ∷ []
+words_more : (n : ℕ) (bs : List ℕ) → words_in (suc n) bs ≡ words_in n bs ++ number_in (take 8 (drop (8 * n) bs)) ∷ []
 unfolding words_in
 words_more zero bs = refl
 words_more (suc n) bs =
@@ -68,44 +66,19 @@ unfolding words_in
 words_length zero bs = refl
 words_length (suc n) bs = ap suc (words_length n (drop 8 bs))
 
--- the first i of the words are stored
-pub record Stored (bs lent words : List ℕ) (n i : ℕ) : Type 0 where
-  pub holds : words ≡ words_in i bs ++ drop i lent
-  pub within : i ≤ n
-  pub long : length words ≡ length lent
-
--- none is stored at first
-pub stored_start : (bs lent : List ℕ) (n : ℕ) → Stored bs lent lent n 0
+-- no words
+pub no_words : (bs : List ℕ) → [] ≡ words_in 0 bs
 unfolding words_in
-stored_start bs lent n = record { holds = refl; within = omega arith; long = refl }
+no_words bs = refl
 
--- one word more
-pub stored_more : {bs lent words : List ℕ} {n i : ℕ} (w : ℕ) → Stored bs lent words n i → i < n → n ≤ length lent → w ≡ number_in (take (8 * i + 8 - 8 * i) (drop (8 * i) bs)) → Stored bs lent (set words i w) n (i + 1)
-stored_more {bs} {lent} {words} {n} {i} w s l room e = record {
-  holds =
-      let eight : 8 * i + 8 - 8 * i ≡ 8 = omega arith in
-      let up : suc i ≡ i + 1 = omega arith in
-      ap (λ (xs : List ℕ). set xs i w) (s.holds ∙ ap (λ (xs : List ℕ). words_in i bs ++ xs) (drop-cons lent i 0 (omega arith)))
-      ∙ set_at (words_in i bs) (get_or lent i 0) (drop (suc i) lent) w i (words_length i bs)
-      ∙ ap (λ (v : ℕ). words_in i bs ++ v ∷ drop (suc i) lent) (e ∙ ap (λ (k : ℕ). number_in (take k (drop (8 * i) bs))) eight)
-      ∙ sym (append_snoc (words_in i bs) (number_in (take 8 (drop (8 * i) bs))) (drop (suc i) lent))
-      ∙ ap (λ (xs : List ℕ). xs ++ drop (suc i) lent) (sym (words_more i bs))
-      ∙ ap (λ (k : ℕ). words_in k bs ++ drop k lent) up;
-  within = omega arith;
-  long = length-set words i w ∙ s.long;
-}
-
--- all are stored
-pub stored_all : {bs lent words : List ℕ} {n i : ℕ} → Stored bs lent words n i → n ≤ i → words ≡ words_in n bs ++ drop n lent
-stored_all {bs} {lent} {words} {n} {i} s h = let e : i ≡ n = omega (arith, s.within) in s.holds ∙ ap (λ (k : ℕ). words_in k bs ++ drop k lent) e
-
--- the bytes from a place on, as a part of a file
-pub from_place : (file : List ℕ) (at : ℕ) → take (length file - at) (drop at file) ≡ drop at file
-from_place file at = take_all (length file - at) (drop at file) (simp length-drop (omega arith))
-
--- from its end on there are none
-pub past_end : (file : List ℕ) (at : ℕ) → length file ≤ at → [] ≡ drop at file
-past_end file at h = sym (drop_of_length-le file {i = at} h)
+-- one word more, read of the i-th eight bytes
+pub one_word : (i w : ℕ) (bs d words : List ℕ) (eights : List (List ℕ)) → take i words ≡ words_in i bs → i < length words → 8 * length words ≤ length bs → eights ≡ first_chunks 8 (length bs / 8) bs → w ≡ from_le_bytes w64 (get_or eights i d) → take (i + 1) (set words i w) ≡ words_in (i + 1) bs
+one_word i w bs d words eights h room long chunks e =
+    let eight : length (take 8 (drop (8 * i) bs)) ≡ 8 = simp (length-take, length-drop) (omega arith) in
+    let at : get_or eights i d ≡ take 8 (drop (8 * i) bs) = ap (λ xs. get_or xs i d) chunks ∙ eight_at (length bs / 8) i bs d (omega arith) in
+    let is : w ≡ number_in (take 8 (drop (8 * i) bs)) = e ∙ ap (from_le_bytes w64) at ∙ number_eight _ eight in
+    let more = words_more i bs in
+    rw (take_more_set, h, is, add-one) (sym more)
 
 -- both of two tests that pass together
 pub both : (a b : Bool) → a && b ≡ true → (a ≡ true) × (b ≡ true)
@@ -207,110 +180,152 @@ text_length : {file : List ℕ} {n t : ℕ} → Known file n t → length (parts
 unfolding parts
 text_length {file} {n} {t} k = part_length t (8 + 9 * n) file (omega (arith, k.behind))
 
--- so many are in the bytes behind the first eight
-pub kinds_count : {file part : List ℕ} {n t : ℕ} → Known file n t → part ≡ drop 8 file → n ≡ length (take n part)
-unfolding parts
-kinds_count {file} {part} {n} {t} k e = sym (ap (λ (l : List ℕ). length (take n l)) e ∙ kinds_length k)
-
--- and in those behind the records
-pub text_count : {file part : List ℕ} {n t : ℕ} → Known file n t → part ≡ drop (8 + 9 * n) file → t ≡ length (take t part)
-unfolding parts
-text_count {file} {part} {n} {t} k e = sym (ap (λ (l : List ℕ). length (take t l)) e ∙ text_length k)
-
--- the sizes of a wrong file
-pub sizes_wrong : (file : List ℕ) (n t : ℕ) → 0 < length file → n ≡ records_in file → t ≡ text_in file → (Fits file n t → ⊥) → Wrong ≡ sizes_of (parse file)
-unfolding sizes_of
-sizes_wrong file n t full e i h = sym (ap sizes_of (wrong file n t full e i h))
-
 -- the sizes of a known file
-sizes_known : {file : List ℕ} {n t : ℕ} → Known file n t → Parts n t ≡ sizes_of (parse file)
+pub sizes_known : {file : List ℕ} {n t : ℕ} → Known file n t → sizes_of (parse file) ≡ Some (record { records = n; text = t })
 unfolding sizes_of
-sizes_known {file} {n} {t} k = sym (ap sizes_of k.parsed ∙ ap (λ (j : ℕ). Parts j (length (parts file n t).text)) (kinds_length k) ∙ ap (λ (j : ℕ). Parts n j) (text_length k))
+sizes_known {file} {n} {t} k =
+    ap sizes_of k.parsed
+    ∙ ap (λ (j : ℕ). Some (record { records = j; text = length (parts file n t).text })) (kinds_length k)
+    ∙ ap (λ (j : ℕ). Some (record { records = n; text = j })) (text_length k)
 
--- of one without bytes
-pub sizes_blank : (file : List ℕ) → length file ≡ 0 → Parts 0 0 ≡ sizes_of (parse file)
+-- nothing that was parsed has none
+pub sizes_none : (file : List ℕ) → parse file ≡ none → None ≡ sizes_of (parse file)
+unfolding sizes_of
+sizes_none file e = sym (ap sizes_of e)
+
+-- those of a file without bytes
+pub sizes_blank : (file : List ℕ) → length file ≡ 0 → sizes_of (parse file) ≡ Some (record { records = 0; text = 0 })
 sizes_blank file e = sizes_known (known_blank file e)
 
--- of one that is right
-pub sizes_right : (file : List ℕ) (n t : ℕ) → n ≡ records_in file → t ≡ text_in file → Fits file n t → Parts n t ≡ sizes_of (parse file)
-sizes_right file n t e i f = sizes_known (known_fits file n t e i f)
-
--- sizes n and t are those of a known file
-pub known : (file : List ℕ) (n t : ℕ) (r : File) → r ≡ sizes_of (parse file) → r ≡ Parts n t → Known file n t
+-- a wrong file has none
+sizes_wrong : (file : List ℕ) → 0 < length file → (Fits file (records_in file) (text_in file) → ⊥) → sizes_of (parse file) ≡ None
 unfolding sizes_of
-known file n t s e i = go (either file)
+sizes_wrong file full h = ap sizes_of (wrong file _ _ full refl refl h)
+
+-- nor has a short one
+pub sizes_short : (file : List ℕ) → 0 < length file → length file < 8 → sizes_of (parse file) ≡ None
+sizes_short file full short = sizes_wrong file full (λ f. omega (arith, f.whole))
+
+-- the two numbers at the start of a file, as the code reads them
+abbrev records_read : List ℕ → ℕ
+records_read file = from_le_bytes w32 (take 4 file)
+
+abbrev text_read : List ℕ → ℕ
+text_read file = from_le_bytes w32 (take 4 (drop 4 file))
+
+-- they are those of the definition
+read_is : (file : List ℕ) → 8 ≤ length file → (records_read file ≡ records_in file) × (text_read file ≡ text_in file)
+read_is file h = (number_four (take 4 file) (simp length-take (omega arith)), number_four (take 4 (drop 4 file)) (simp (length-take, length-drop) (omega arith)))
+
+-- too many records
+pub sizes_large : (file : List ℕ) → 8 ≤ length file → 4096 < records_read file → sizes_of (parse file) ≡ None
+sizes_large file h l = let e = read_is file h in sizes_wrong file (omega arith) (λ f. omega (arith, e.0, f.few))
+
+-- too much text
+pub sizes_wide : (file : List ℕ) → 8 ≤ length file → 16384 < text_read file → sizes_of (parse file) ≡ None
+sizes_wide file h l = let e = read_is file h in sizes_wrong file (omega arith) (λ f. omega (arith, e.1, f.short))
+
+-- another length
+pub sizes_off : (file : List ℕ) → 8 ≤ length file → (length file ≡ 8 + 9 * records_read file + text_read file → ⊥) → sizes_of (parse file) ≡ None
+sizes_off file h l = let e = read_is file h in sizes_wrong file (omega arith) (λ f. l (omega (arith, e.0, e.1, f.whole)))
+
+-- a file that is right
+pub sizes_right : (file : List ℕ) → records_read file ≤ 4096 → text_read file ≤ 16384 → length file ≡ 8 + 9 * records_read file + text_read file → sizes_of (parse file) ≡ Some (record { records = records_read file; text = text_read file })
+sizes_right file few short whole =
+    let e = read_is file (omega arith) in
+    sizes_known (known_fits file _ _ e.0 e.1 (record { few = few; short = short; whole = whole }))
+
+-- the sizes of every file, by the tests of the code
+pub ruleset sizes = (sizes_blank, sizes_short, sizes_large, sizes_wide, sizes_off, sizes_right)
+
+-- what is known of a file whose sizes are known
+known : (file : List ℕ) (s : Sizes) → Some s ≡ sizes_of (parse file) → Known file s.records s.text
+unfolding sizes_of
+known file s e = go (either file)
   where
-    go : Either file → Known file n t
+    go : Either file → Known file s.records s.text
     go (model m u k) =
-        let same : Parts m u ≡ sizes_of (parse file) = sizes_known k in
-        let a : m ≡ n = cc in
-        let b : u ≡ t = cc in
+        let same : Some (record { records = m; text = u }) ≡ Some s = sym (e ∙ sizes_known k) in
+        let a : m ≡ s.records = cc in
+        let b : u ≡ s.text = cc in
         rw (a, b) at k
-    go (nothing p) =
-        let w : Wrong ≡ sizes_of (parse file) = sym (ap sizes_of p) in
-        let z : ◌≡◌ {A = ℕ} 0 1 = cc in
-        absurd (omega arith)
+    go (nothing p) = let w : ◌≡◌ {A = Rust.Option Sizes} (Some s) None = e ∙ ap sizes_of p in cc
 
--- a wrong file is not parsed
-pub lost : (o : Option Model) (r : File) → r ≡ sizes_of o → r ≡ Wrong → o ≡ none
-unfolding sizes_of
-lost none r e i = refl
-lost (some m) r e i =
-    let z : ◌≡◌ {A = ℕ} 0 1 = cc in
-    absurd (omega arith)
+-- a file without sizes is not parsed
+lost : (file : List ℕ) → None ≡ sizes_of (parse file) → parse file ≡ none
+lost file e = go (either file)
+  where
+    go : Either file → parse file ≡ none
+    go (model m u k) = let w : ◌≡◌ {A = Rust.Option Sizes} None (Some (record { records = m; text = u })) = e ∙ sizes_known k in cc
+    go (nothing p) = p
 
--- the kinds of a right file
-pub kinds_known : {file part : List ℕ} {n t : ℕ} → Known file n t → part ≡ drop 8 file → take n part ≡ kinds_of (parse file)
+-- how long a file is behind its first eight bytes
+pub known_length : (file : List ℕ) (s : Sizes) → Some s ≡ sizes_of (parse file) → length file - 8 ≡ 9 * s.records + s.text
+known_length file s e = (known file s e).behind
+
+-- the records are few
+pub known_few : (file : List ℕ) (s : Sizes) → Some s ≡ sizes_of (parse file) → s.records ≤ 4096
+known_few file s e = (known file s e).few
+
+-- its text is within it
+pub text_within : (file : List ℕ) (s : Sizes) → Some s ≡ sizes_of (parse file) → length (take s.text (drop (8 + 9 * s.records) file)) ≡ s.text
+unfolding parts
+text_within file s e = text_length (known file s e)
+
+-- and so are its words
+pub words_within : (file : List ℕ) (s : Sizes) → Some s ≡ sizes_of (parse file) → 8 * s.records ≤ length (drop (8 + s.records) file)
+words_within file s e = simp length-drop (omega (arith, known_length file s e))
+
+-- the kinds and the text of a right file
+pub kinds_known : (file : List ℕ) (s : Sizes) → Some s ≡ sizes_of (parse file) → take s.records (drop 8 file) ≡ kinds_of (parse file)
 unfolding kinds_of parts
-kinds_known {file} {part} {n} {t} k e = ap (take n) e ∙ sym (ap kinds_of k.parsed)
+kinds_known file s e = sym (ap kinds_of (known file s e).parsed)
 
--- the text of a right file
-pub text_known : {file part : List ℕ} {n t : ℕ} → Known file n t → part ≡ drop (8 + 9 * n) file → take t part ≡ text_of (parse file)
+pub text_known : (file : List ℕ) (s : Sizes) → Some s ≡ sizes_of (parse file) → take s.text (drop (8 + 9 * s.records) file) ≡ text_of (parse file)
 unfolding text_of parts
-text_known {file} {part} {n} {t} k e = ap (take t) e ∙ sym (ap text_of k.parsed)
+text_known file s e = sym (ap text_of (known file s e).parsed)
 
--- a wrong file has no kinds
-pub kinds_lost : {o : Option Model} → o ≡ none → [] ≡ kinds_of o
+-- a wrong file has neither
+pub kinds_lost : (file : List ℕ) → None ≡ sizes_of (parse file) → kinds_of (parse file) ≡ []
 unfolding kinds_of
-kinds_lost e = sym (ap kinds_of e)
+kinds_lost file e = ap kinds_of (lost file e)
 
--- a wrong file has no text
-pub text_lost : {o : Option Model} → o ≡ none → [] ≡ text_of o
+pub text_lost : (file : List ℕ) → None ≡ sizes_of (parse file) → text_of (parse file) ≡ []
 unfolding text_of
-text_lost e = sym (ap text_of e)
+text_lost file e = ap text_of (lost file e)
 
--- a wrong file
-pub decoded_lost : {file lent : List ℕ} → parse file ≡ none → Decoded file lent Wrong lent
+-- the parts of every file
+pub ruleset its_parts = (common_steps, known_length, known_few, text_within, words_within, kinds_known, text_known, kinds_lost, text_lost)
+
+-- decoding finds that a file is wrong
+pub decoded_lost : (file lent : List ℕ) → None ≡ sizes_of (parse file) → Decoded file lent None lent
 unfolding decoded words_after
-decoded_lost {file} {lent} e = record { answer = sym (ap (λ (o : Option Model). decoded o (length lent)) e); stored = sym (ap (λ (o : Option Model). words_after o lent) e) }
+decoded_lost file lent e = let p = lost file e in record { answer = sym (ap (λ o. decoded o (length lent)) p); stored = sym (ap (λ o. words_after o lent) p) }
 
 -- the number of words of a right file
 pub words_known : (file : List ℕ) (n t : ℕ) → length (parts file n t).words ≡ n
 unfolding parts
 words_known file n t = words_length n (drop (8 + n) file)
 
--- a file with more words than are lent
-pub decoded_short : {file lent : List ℕ} {n t : ℕ} → Known file n t → length lent < n → Decoded file lent Wrong lent
+-- that it has more words than are lent
+pub decoded_short : (file lent : List ℕ) (s : Sizes) → Some s ≡ sizes_of (parse file) → length lent < s.records → Decoded file lent None lent
 unfolding decoded words_after
-decoded_short {file} {lent} {n} {t} k h =
-    let no : leb (length (parts file n t).words) (length lent) ≡ false = lt-leb (length (parts file n t).words) (length lent) (omega (arith, words_known file n t)) in
+decoded_short file lent s e h =
+    let p = (known file s e).parsed in
+    let no : leb (length (parts file s.records s.text).words) (length lent) ≡ false = lt-leb _ (length lent) (omega (arith, words_known file s.records s.text)) in
+    record { answer = sym (ap (λ o. decoded o (length lent)) p ∙ simp no); stored = sym (ap (λ o. words_after o lent) p ∙ simp no) }
+
+-- or stores its words
+pub decoded_stored : (file lent : List ℕ) (s : Sizes) → Some s ≡ sizes_of (parse file) → s.records ≤ length lent → Decoded file lent (Some s) (words_in s.records (drop (8 + s.records) file) ++ drop s.records lent)
+unfolding decoded words_after parts sizes_of
+decoded_stored file lent s e h =
+    let k = known file s e in
+    let count = words_known file s.records s.text in
+    let yes : leb (length (parts file s.records s.text).words) (length lent) ≡ true = le-leb _ (length lent) (omega arith) in
     record {
-      answer = sym (ap (λ (o : Option Model). decoded o (length lent)) k.parsed ∙ simp no);
-      stored = sym (ap (λ (o : Option Model). words_after o lent) k.parsed ∙ simp no);
+      answer = e ∙ ap sizes_of k.parsed ∙ sym (ap (λ o. decoded o (length lent)) k.parsed ∙ simp yes);
+      stored = sym (ap (λ o. words_after o lent) k.parsed ∙ simp yes (ap (λ j. words_in s.records (drop (8 + s.records) file) ++ drop j lent) count));
     }
 
--- the words of a file and what is lent behind them, by their number
-words_parts : (file : List ℕ) (n t : ℕ) (lent : List ℕ) → (parts file n t).words ++ drop (length (parts file n t).words) lent ≡ words_in n (drop (8 + n) file) ++ drop n lent
-unfolding parts
-words_parts file n t lent = ap (λ (j : ℕ). words_in n (drop (8 + n) file) ++ drop j lent) (words_length n (drop (8 + n) file))
-
--- the words of a right file, as they are stored
-pub decoded_stored : {file lent part words : List ℕ} {n t : ℕ} → Known file n t → n ≤ length lent → part ≡ drop (8 + n) file → words ≡ words_in n part ++ drop n lent → Decoded file lent (Parts n t) words
-unfolding decoded words_after
-decoded_stored {file} {lent} {part} {words} {n} {t} k h p e =
-    let count : length (parts file n t).words ≡ n = words_known file n t in
-    let yes : leb (length (parts file n t).words) (length lent) ≡ true = le-leb (length (parts file n t).words) (length lent) (omega arith) in
-    record {
-      answer = sym (ap (λ (o : Option Model). decoded o (length lent)) k.parsed ∙ simp yes (ap (λ (j : ℕ). Parts j (length (parts file n t).text)) (kinds_length k) ∙ ap (λ (j : ℕ). Parts n j) (text_length k)));
-      stored = e ∙ ap (λ (bs : List ℕ). words_in n bs ++ drop n lent) p ∙ sym (ap (λ (o : Option Model). words_after o lent) k.parsed ∙ simp yes (words_parts file n t lent));
-    }
+-- what decoding finds
+pub ruleset finds = (its_parts, decoded_lost, decoded_short, decoded_stored)

@@ -1,39 +1,41 @@
 -- Laws of lines that are rendered one behind the other, as many as fit.
 -- Assumes nothing.
-use Rattle.std.specs.Prelude.{if◌then◌else◌}
+use Rattle.std.specs.Prelude.{Option, Some, None}
 use Prim.Native.Nat.{ℕ, suc, ◌+◌, ◌-◌, ◌≤◌, ◌<◌}
 use native.Mathlib.Nat.{add-zero}
 use native.Mathlib.Omega.{arith}
 use mathlib.Core.Path.{◌≡◌, refl, sym, ap, ◌∙◌}
 use mathlib.Core.Bool.{Bool, true, false}
 use mathlib.Core.List.{List, [], ◌∷◌, ◌++◌, map, append-nil, append_assoc}
-use borrow.Author.Tests.{leb-true, leb-false, le-leb, lt-leb, eq-eqb, ne_eqb}
-use lib.Dec.{leb, eqb}
+use borrow.Author.Tests.{leb-true, leb-false, le-leb, lt-leb, ne_eqb}
+use lib.Dec.{leb}
 use lib.ListN.{length, get_or, take, drop, take-append-drop, length-append, length-take, length-drop, drop_of_length-le}
-use lib.Seq.{take_at, drop_at, drop-drop, drop-cons, take-nil, take_all, length-take-le}
-use Rattle.lustre.specs.Name.{Name}
-use Rattle.lustre.specs.Answer.{refusal_of, first_of, second_of}
+use lib.Seq.{take_at, drop_at, drop-drop, drop-cons, take_all, length-take-le}
+use Rattle.lustre.specs.Answer.{refusal_of}
 use Rattle.lustre.specs.declared.Line.{Line}
 use Rattle.lustre.specs.declared.Answer.{Answer}
+use Rattle.lustre.specs.declared.Answer.TheVariants.{Report, Refused, MoreLines}
+use Rattle.lustre.specs.declared.Refusal.{Refusal}
+use Rattle.lustre.proofs.Lowest.{refusal_above}
 use Rattle.lustre.specs.Names.{names_of}
-use Rattle.format.specs.Output.{bytes, decimal, line, header, line_count, output_lines, joined, printed}
+use Rattle.format.specs.Output.{line, header, line_count, output_lines, joined, printed}
 use Rattle.format.specs.Buffers.{Rendered, Filled, fitting}
 
 -- what was not rendered did not fit
-pub skipped : {b p p' : List ℕ} {k : ℕ} → Rendered b p k p' → 0 < length b → k ≡ 0 → (length p < length b) × (p' ≡ p)
-skipped {b} {p} {p'} {k} r h z = go (leb (length b) (length p)) refl
+pub skipped : {b p p' : List ℕ} → Rendered b p None p' → (length p < length b) × (p' ≡ p)
+skipped {b} {p} {p'} r = go (leb (length b) (length p)) refl
   where
     go : (t : Bool) → leb (length b) (length p) ≡ t → (length p < length b) × (p' ≡ p)
-    go true e = absurd (let c : k ≡ length b = r.count ∙ simp e in omega arith)
+    go true e = absurd (let c : ◌≡◌ {A = Option ℕ} None (Some (length b)) = r.count ∙ simp e in cc)
     go false e = (leb-false (length b) (length p) e, r.out ∙ simp e)
 
 -- what was rendered fits and stands at the start
-pub rendered : {b p p' : List ℕ} {k : ℕ} → Rendered b p k p' → (k ≡ 0 → ⊥) → (length b ≤ length p) × (k ≡ length b) × (p' ≡ b ++ drop (length b) p)
-rendered {b} {p} {p'} {k} r h = go (leb (length b) (length p)) refl
+pub rendered : {b p p' : List ℕ} {k : ℕ} → Rendered b p (Some k) p' → (length b ≤ length p) × (k ≡ length b) × (p' ≡ b ++ drop (length b) p)
+rendered {b} {p} {p'} {k} r = go (leb (length b) (length p)) refl
   where
     go : (t : Bool) → leb (length b) (length p) ≡ t → (length b ≤ length p) × (k ≡ length b) × (p' ≡ b ++ drop (length b) p)
-    go true e = (leb-true (length b) (length p) e, r.count ∙ simp e, r.out ∙ simp e)
-    go false e = absurd (h (r.count ∙ simp e))
+    go true e = (leb-true (length b) (length p) e, (let c : Some k ≡ Some (length b) = r.count ∙ simp e in cc), r.out ∙ simp e)
+    go false e = absurd (let c : ◌≡◌ {A = Option ℕ} (Some k) None = r.count ∙ simp e in cc)
 
 -- no lines
 pub filled_none : (o : List ℕ) (at : ℕ) → Filled [] o at at o
@@ -76,48 +78,25 @@ filled_more {b} {bs} {o} {o₁} {o'} {at} {r} h e f =
           ∙ ap (λ (k : ℕ). take at o ++ (b ++ rest) ++ drop k o) (sym count));
     }
 
--- a line is not empty
-pub line_positive : (names : List Name) (l : Line) → 0 < length (line names l)
-unfolding line
-line_positive names l = simp length-append (omega arith)
-
--- a header is not empty
-pub header_positive : (a : Answer) → 0 < length (header a)
-unfolding header
-header_positive a = go (eqb (refusal_of a) 0)
-  where
-    go : (t : Bool) → 0 < length (if t then bytes "lines " ++ decimal (first_of a) ++ bytes " followed " ++ decimal (second_of a) ++ bytes "\n" else bytes "refused " ++ decimal (refusal_of a) ++ bytes " at " ++ decimal (first_of a) ++ bytes "\n")
-    go true = omega arith
-    go false = omega arith
-
 -- what is rendered from line i on completes the whole
-pub record Going (f : Line → List ℕ) (count : ℕ) (ls : List Line) (o₀ : List ℕ) (start : ℕ) (o : List ℕ) (at i : ℕ) : Type 0 where
+pub record Going (f : Line → List ℕ) (ls : List Line) (o₀ : List ℕ) (start : ℕ) (o : List ℕ) (at i : ℕ) : Type 0 where
   pub within : at ≤ length o
   pub long : length o ≡ length o₀
-  pub rest : {r : ℕ} {o' : List ℕ} → Filled (map f (take (count - i) (drop i ls))) o at r o' → Filled (map f (take count ls)) o₀ start r o'
+  pub rest : {r : ℕ} {o' : List ℕ} → Filled (map f (drop i ls)) o at r o' → Filled (map f ls) o₀ start r o'
 
 -- nothing is rendered at first
-pub going_start : {f : Line → List ℕ} {count : ℕ} {ls : List Line} {o : List ℕ} {start : ℕ} → start ≤ length o → Going f count ls o start o start 0
-going_start {f} {count} {ls} {o} {start} h =
-    let e : count - 0 ≡ count = omega arith in
-    record { within = h; long = refl; rest = λ x. rw e at x }
-
--- all lines that are counted are rendered
-pub going_counted : {f : Line → List ℕ} {count : ℕ} {ls : List Line} {o₀ o : List ℕ} {start at i : ℕ} → Going f count ls o₀ start o at i → count ≤ i → Filled (map f (take count ls)) o₀ start at o
-going_counted {f} {count} {ls} {o₀} {o} {start} {at} {i} g h =
-    let e : count - i ≡ 0 = omega arith in
-    g.rest (rw e (filled_none o at))
+pub going_start : {f : Line → List ℕ} {ls : List Line} {o : List ℕ} {start : ℕ} → start ≤ length o → Going f ls o start o start 0
+going_start h = record { within = h; long = refl; rest = λ x. x }
 
 -- all lines are rendered
-pub going_ended : {f : Line → List ℕ} {count : ℕ} {ls : List Line} {o₀ o : List ℕ} {start at i : ℕ} → Going f count ls o₀ start o at i → length ls ≤ i → Filled (map f (take count ls)) o₀ start at o
-going_ended {f} {count} {ls} {o₀} {o} {start} {at} {i} g h = g.rest (rw (drop_of_length-le ls h, take-nil) (filled_none o at))
+pub going_ended : {f : Line → List ℕ} {ls : List Line} {o₀ o : List ℕ} {start at i : ℕ} → Going f ls o₀ start o at i → length ls ≤ i → Filled (map f ls) o₀ start at o
+going_ended {f} {ls} {o₀} {o} {start} {at} {i} g h = g.rest (rw (drop_of_length-le ls h) (filled_none o at))
 
 -- the next line, and the rest
-next_line : (f : Line → List ℕ) (count i : ℕ) (ls : List Line) (d : Line) → i < count → i < length ls → map f (take (count - i) (drop i ls)) ≡ f (get_or ls i d) ∷ map f (take (count - (i + 1)) (drop (i + 1) ls))
-next_line f count i ls d h l =
-    let e : count - i ≡ suc (count - (i + 1)) = omega arith in
+next_line : (f : Line → List ℕ) (i : ℕ) (ls : List Line) (d : Line) → i < length ls → map f (drop i ls) ≡ f (get_or ls i d) ∷ map f (drop (i + 1) ls)
+next_line f i ls d l =
     let u : suc i ≡ i + 1 = omega arith in
-    rw (e, drop-cons ls i d l, u)
+    ap (map f) (drop-cons ls i d l) ∙ ap (λ (k : ℕ). f (get_or ls i d) ∷ map f (drop k ls)) u
 
 -- the buffer o with a part of its own from `at` on put back
 abbrev back : List ℕ → ℕ → List ℕ → List ℕ
@@ -138,16 +117,16 @@ back_is o at p =
     ap (λ (xs : List ℕ). take at o ++ (p ++ xs)) none ∙ ap (λ (xs : List ℕ). take at o ++ xs) (append-nil p)
 
 -- a line that does not fit the part leaves the buffer
-part_skipped : (o : List ℕ) (at : ℕ) {b p : List ℕ} {k : ℕ} → Rendered b (part o at) k p → 0 < length b → k ≡ 0 → (length o - at < length b) × (back o at p ≡ o)
-part_skipped o at {b} {p} {k} r h z =
-    let s = skipped r h z in
+part_skipped : (o : List ℕ) (at : ℕ) {b p : List ℕ} → Rendered b (part o at) None p → (length o - at < length b) × (back o at p ≡ o)
+part_skipped o at {b} {p} r =
+    let s = skipped r in
     let long : length (part o at) ≡ length o - at = ap length (part_is o at) ∙ length-drop at o in
     (omega (arith, s.0), back_is o at p ∙ ap (λ (xs : List ℕ). take at o ++ xs) (s.1 ∙ part_is o at) ∙ take-append-drop at o)
 
 -- one that fits stands in the buffer
-part_rendered : (o : List ℕ) (at : ℕ) {b p : List ℕ} {k : ℕ} → Rendered b (part o at) k p → (k ≡ 0 → ⊥) → at ≤ length o → (at + length b ≤ length o) × (k ≡ length b) × (back o at p ≡ take at o ++ b ++ drop (at + length b) o)
-part_rendered o at {b} {p} {k} r h l =
-    let s = rendered r h in
+part_rendered : (o : List ℕ) (at : ℕ) {b p : List ℕ} {k : ℕ} → Rendered b (part o at) (Some k) p → at ≤ length o → (at + length b ≤ length o) × (k ≡ length b) × (back o at p ≡ take at o ++ b ++ drop (at + length b) o)
+part_rendered o at {b} {p} {k} r l =
+    let s = rendered r in
     let long : length (part o at) ≡ length o - at = ap length (part_is o at) ∙ length-drop at o in (
       omega (arith, s.0),
       s.1,
@@ -155,64 +134,61 @@ part_rendered o at {b} {p} {k} r h l =
     )
 
 -- the next line does not fit
-pub going_skip : {f : Line → List ℕ} {count : ℕ} {ls : List Line} {o₀ o p : List ℕ} {start at i k : ℕ} (d : Line) → Going f count ls o₀ start o at i → i < count → i < length ls
-    → Rendered (f (get_or ls i d)) (part o at) k p → 0 < length (f (get_or ls i d)) → k ≡ 0 → Filled (map f (take count ls)) o₀ start at (back o at p)
-going_skip {f} {count} {ls} {o₀} {o} {p} {start} {at} {i} {k} d g h l r pos z =
-    let s = part_skipped o at r pos z in
-    rw s.1 (g.rest (rw (next_line f count i ls d h l) (filled_skip (f (get_or ls i d)) (map f (take (count - (i + 1)) (drop (i + 1) ls))) o at s.0)))
+pub going_skip : {f : Line → List ℕ} {ls : List Line} {o₀ o p : List ℕ} {start at i : ℕ} (d : Line) → Going f ls o₀ start o at i → i < length ls
+    → Rendered (f (get_or ls i d)) (part o at) None p → Filled (map f ls) o₀ start at (back o at p)
+going_skip {f} {ls} {o₀} {o} {p} {start} {at} {i} d g l r =
+    let s = part_skipped o at r in
+    rw s.1 (g.rest (rw (next_line f i ls d l) (filled_skip (f (get_or ls i d)) (map f (drop (i + 1) ls)) o at s.0)))
 
 -- the next line fits
-pub going_more : {f : Line → List ℕ} {count : ℕ} {ls : List Line} {o₀ o p : List ℕ} {start at i k : ℕ} (d : Line) → Going f count ls o₀ start o at i → i < count → i < length ls
-    → Rendered (f (get_or ls i d)) (part o at) k p → (k ≡ 0 → ⊥) → Going f count ls o₀ start (back o at p) (at + k) (i + 1)
-going_more {f} {count} {ls} {o₀} {o} {p} {start} {at} {i} {k} d g h l r pos =
-    let s = part_rendered o at r pos g.within in
+pub going_more : {f : Line → List ℕ} {ls : List Line} {o₀ o p : List ℕ} {start at i k : ℕ} (d : Line) → Going f ls o₀ start o at i → i < length ls
+    → Rendered (f (get_or ls i d)) (part o at) (Some k) p → Going f ls o₀ start (back o at p) (at + k) (i + 1)
+going_more {f} {ls} {o₀} {o} {p} {start} {at} {i} {k} d g l r =
+    let s = part_rendered o at r g.within in
     let long : length (back o at p) ≡ length o = ap length s.2 ∙ simp (length-append, length-take, length-drop) (omega (arith, s.0, g.within)) in
     record {
       within = omega (arith, s.0, s.1);
       long = long ∙ g.long;
-      rest = λ x. g.rest (rw (next_line f count i ls d h l) (filled_more s.0 s.2 (rw s.1 at x)));
+      rest = λ x. g.rest (rw (next_line f i ls d l) (filled_more s.0 s.2 (rw s.1 at x)));
     }
 
 -- no more is rendered than fits the part
-pub part_fits : (o : List ℕ) (at : ℕ) {b p : List ℕ} {k : ℕ} → Rendered b (part o at) k p → at ≤ length o → at + k ≤ length o
-part_fits o at {b} {p} {k} r h = go (leb (length b) (length (part o at))) refl
-  where
-    go : (t : Bool) → leb (length b) (length (part o at)) ≡ t → at + k ≤ length o
-    go true e =
-        let count : k ≡ length b = r.count ∙ simp e in
-        let long : length (part o at) ≡ length o - at = ap length (part_is o at) ∙ length-drop at o in
-        omega (arith, leb-true (length b) (length (part o at)) e)
-    go false e = let count : k ≡ 0 = r.count ∙ simp e in omega arith
+pub part_fits : (o : List ℕ) (at : ℕ) {b p : List ℕ} {k : ℕ} → Rendered b (part o at) (Some k) p → at ≤ length o → at + k ≤ length o
+part_fits o at r h = let s = part_rendered o at r h in omega (arith, s.0, s.1)
 
--- the lines of a report
-pub count_report : (a : Answer) (refusal first second : ℕ) → (refusal ≡ refusal_of a) × (first ≡ first_of a) × (second ≡ second_of a) → refusal ≡ 0 → first ≡ line_count a
+-- a report prints its lines
+pub count_report : (n edges : ℕ) → line_count (Report n edges) ≡ n
 unfolding line_count
-count_report a refusal first second same z = same.1 ∙ sym (simp (eq-eqb (refusal_of a) 0 (sym same.0 ∙ z)))
+count_report n edges = refl
 
 -- no lines behind a refusal
-pub count_refused : (a : Answer) (refusal first second : ℕ) → (refusal ≡ refusal_of a) × (first ≡ first_of a) × (second ≡ second_of a) → (refusal ≡ 0 → ⊥) → 0 ≡ line_count a
+pub count_refused : (r : Refusal) → line_count (Refused r) ≡ 0
 unfolding line_count
-count_refused a refusal first second same z = sym (simp (ne_eqb (refusal_of a) 0 (λ e. z (same.0 ∙ e))))
+count_refused r = simp (ne_eqb (refusal_of (Refused r)) 0 (refusal_above r))
+
+pub count_more : (n : ℕ) → line_count (MoreLines n) ≡ 0
+unfolding line_count
+count_more n = refl
 
 -- a header that does not fit
-pub output_skip : (a : Answer) (ls : List Line) (text : List ℕ) {o o₁ : List ℕ} {k : ℕ} → Rendered (header a) o k o₁ → k ≡ 0 → Filled (output_lines a ls text) o 0 0 o₁
+pub output_skip : (a : Answer) (ls : List Line) (text : List ℕ) {o o₁ : List ℕ} → Rendered (header a) o None o₁ → Filled (output_lines a ls text) o 0 0 o₁
 unfolding output_lines
-output_skip a ls text {o} {o₁} {k} r z =
-    let s = skipped r (header_positive a) z in
+output_skip a ls text {o} {o₁} r =
+    let s = skipped r in
     rw s.1 (filled_skip (header a) (map (line (names_of text)) (take (line_count a) ls)) o 0 (omega (arith, s.0)))
 
 -- a header that fits, and lines behind it
-pub output_more : (a : Answer) (ls : List Line) (text : List ℕ) {o o₁ o' : List ℕ} {k count r : ℕ} → Rendered (header a) o k o₁ → (k ≡ 0 → ⊥) → count ≡ line_count a → Filled (map (line (names_of text)) (take count ls)) o₁ k r o' → Filled (output_lines a ls text) o 0 r o'
+pub output_more : (a : Answer) (ls : List Line) (text : List ℕ) {o o₁ o' : List ℕ} {k r : ℕ} → Rendered (header a) o (Some k) o₁ → Filled (map (line (names_of text)) (take (line_count a) ls)) o₁ k r o' → Filled (output_lines a ls text) o 0 r o'
 unfolding output_lines
-output_more a ls text {o} {o₁} {o'} {k} {count} {r} s h e f =
-    let t = rendered s h in
+output_more a ls text {o} {o₁} {o'} {k} {r} s f =
+    let t = rendered s in
     let z : length (header a) ≡ 0 + length (header a) = omega arith in
-    filled_more (omega (arith, t.0)) (t.2 ∙ ap (λ (n : ℕ). header a ++ drop n o) z) (rw (e, t.1 ∙ z) at f)
+    filled_more (omega (arith, t.0)) (t.2 ∙ ap (λ (n : ℕ). header a ++ drop n o) z) (rw (t.1 ∙ z) at f)
 
 -- what was rendered is within the buffer
-pub rendered_within : {b o o₁ : List ℕ} {k : ℕ} → Rendered b o k o₁ → (k ≡ 0 → ⊥) → k ≤ length o₁
-rendered_within {b} {o} {o₁} {k} r h =
-    let t = rendered r h in
+pub rendered_within : {b o o₁ : List ℕ} {k : ℕ} → Rendered b o (Some k) o₁ → k ≤ length o₁
+rendered_within {b} {o} {o₁} {k} r =
+    let t = rendered r in
     let long : length o₁ ≡ length b + length (drop (length b) o) = ap length t.2 ∙ length-append b (drop (length b) o) in
     omega (arith, t.1)
 
@@ -225,12 +201,12 @@ fitting_all room (b ∷ bs) h =
     simp (le-leb (length b) room (omega arith)) (ap (λ (xs : List ℕ). b ++ xs) (fitting_all (room - length b) bs (omega arith)))
 
 -- where the whole output fits, it is rendered
-pub output_whole : (a : Answer) (ls : List Line) (text : List ℕ) {o o' : List ℕ} {r : ℕ} → Filled (output_lines a ls text) o 0 r o' → length (printed a ls text) ≤ length o → Rendered (printed a ls text) o r o'
+pub output_whole : (a : Answer) (ls : List Line) (text : List ℕ) {o o' : List ℕ} {r : ℕ} → Filled (output_lines a ls text) o 0 r o' → length (printed a ls text) ≤ length o → Rendered (printed a ls text) o (Some r) o'
 unfolding printed
 output_whole a ls text {o} {o'} {r} f h =
     let all : fitting (length o - 0) (output_lines a ls text) ≡ joined (output_lines a ls text) = fitting_all (length o - 0) (output_lines a ls text) (omega arith) in
     let z : 0 + length (joined (output_lines a ls text)) ≡ length (joined (output_lines a ls text)) = omega arith in
     record {
-      count = simp (le-leb (length (joined (output_lines a ls text))) (length o) h) (f.next ∙ ap (λ (xs : List ℕ). 0 + length xs) all ∙ z);
+      count = simp (le-leb (length (joined (output_lines a ls text))) (length o) h) (ap Some (f.next ∙ ap (λ (xs : List ℕ). 0 + length xs) all ∙ z));
       out = simp (le-leb (length (joined (output_lines a ls text))) (length o) h) (f.out ∙ ap (λ (xs : List ℕ). xs ++ drop (0 + length xs) o) all ∙ ap (λ (k : ℕ). joined (output_lines a ls text) ++ drop k o) z);
     }

@@ -1,4 +1,4 @@
-pub mod Puts
+pub mod Pieces
 pub mod Files
 pub mod Written
 pub mod Example

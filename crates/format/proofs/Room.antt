@@ -1,6 +1,7 @@
 -- How much room the output takes: where no name is longer than refusal 3 lets pass, a header has at most 57 bytes and a line at most 171,
 -- so that the output of a call with 1,024 lines fits 175,161 bytes.
 -- Assumes nothing.
+use Rattle.std.specs.Prelude.{Some}
 use Prim.Native.Nat.{ℕ, zero, suc, ◌+◌, ◌*◌, ◌/◌, ◌%◌, ◌≤◌}
 use native.Mathlib.Omega.{arith}
 use mathlib.Core.Path.{◌≡◌, refl}
@@ -17,7 +18,7 @@ use Rattle.lustre.specs.declared.Line.{Line}
 use Rattle.lustre.specs.declared.Answer.{Answer}
 use Rattle.format.specs.Output.{bytes, decimal, four_digits, code, field, places, place, name, front, line, header, line_count, output_lines, joined, printed}
 use Rattle.format.specs.Buffers.{Rendered, Filled}
-use Rattle.format.proofs.Puts.{length_either, length_digits}
+use Rattle.format.proofs.Pieces.{length_either, length_digits}
 use Rattle.format.proofs.Files.{both}
 use Rattle.format.proofs.Fill.{output_whole}
 
@@ -83,7 +84,7 @@ printed_short a ls text s h =
     omega (arith, length-append (header a) (joined (map (line (names_of text)) (take (line_count a) ls))), header_short a, lines_short (names_of text) s (take (line_count a) ls))
 
 -- with so much room the whole output is rendered
-pub output_always : (a : Answer) (ls : List Line) (text : List ℕ) {o o' : List ℕ} {r : ℕ} → Short (names_of text) → length ls ≤ 1024 → 175161 ≤ length o → Filled (output_lines a ls text) o 0 r o' → Rendered (printed a ls text) o r o'
+pub output_always : (a : Answer) (ls : List Line) (text : List ℕ) {o o' : List ℕ} {r : ℕ} → Short (names_of text) → length ls ≤ 1024 → 175161 ≤ length o → Filled (output_lines a ls text) o 0 r o' → Rendered (printed a ls text) o (Some r) o'
 output_always a ls text s h room f = output_whole a ls text f (omega (arith, printed_short a ls text s h))
 
 -- a name of refusal 3 has at most 64 bytes

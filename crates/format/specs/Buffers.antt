@@ -1,16 +1,10 @@
 -- What the functions of this crate leave in a lent byte buffer.
 -- Assumes nothing: these are definitions.
-use Rattle.std.specs.Prelude.{ℕ, ◌+◌, ◌-◌, ◌≡◌, List, [], ◌∷◌, ◌++◌, leb, length, take, drop, if◌then◌else◌}
-use Rattle.std.proofs.lemmas.List.Edits.{sets}
+use Rattle.std.specs.Prelude.{ℕ, ◌+◌, ◌-◌, ◌≡◌, List, [], ◌∷◌, ◌++◌, leb, length, take, drop, if◌then◌else◌, Option, Some, None}
 
--- the buffer o' is o with bs from position `at`, as far as there is room, and r is the position behind them
-pub record Put (bs o : List ℕ) (at r : ℕ) (o' : List ℕ) : Type 0 where
-  pub out : o' ≡ sets o at bs
-  pub next : r ≡ at + length bs
-
--- the buffer o' is o with bs at its start, and r is their number; where they do not fit, it is o, and r is 0
-pub record Rendered (bs o : List ℕ) (r : ℕ) (o' : List ℕ) : Type 0 where
-  pub count : r ≡ (if leb (length bs) (length o) then length bs else 0)
+-- the buffer o' is o with bs at its start, and r is their number; where they do not fit, it is o, and r is none
+pub record Rendered (bs o : List ℕ) (r : Option ℕ) (o' : List ℕ) : Type 0 where
+  pub count : r ≡ (if leb (length bs) (length o) then Some (length bs) else None)
   pub out : o' ≡ (if leb (length bs) (length o) then bs ++ drop (length bs) o else o)
 
 -- one line after the other, as many whole lines as there is room for

@@ -3,9 +3,10 @@
 -- is read as sizes zero: request 2.1.
 -- Assumes nothing: these are definitions.
 use Rattle.std.specs.Prelude.{ℕ, zero, suc, ◌+◌, ◌*◌, ◌/◌, ◌%◌, ◌<◌, ◌≤◌, ◌^◌, ◌≡◌, Bool, ◌&&◌, List, [], ◌∷◌, ◌++◌, eqb, leb, length, take, drop, if◌then◌else◌}
+use Rattle.std.specs.Prelude.{Some, None}
+use Rattle.std.specs.Prelude as Rust
 use Rattle.std.proofs.Math.Option.{Option, none, some}
-use Rattle.format.specs.declared.File.{File}
-use Rattle.format.specs.declared.File.TheVariants.{Wrong, Parts}
+use Rattle.format.specs.declared.Sizes.{Sizes}
 
 -- what a file holds: record kinds, record words and the text of the names
 pub record Model : Type 0 where
@@ -57,14 +58,14 @@ text_of none = []
 text_of (some m) = m.text
 
 -- the sizes of what was parsed: record count and text length
-unfoldable pub sizes_of : Option Model → File
-sizes_of none = Wrong
-sizes_of (some m) = Parts (length m.kinds) (length m.text)
+unfoldable pub sizes_of : Option Model → Rust.Option Sizes
+sizes_of none = None
+sizes_of (some m) = Some (record { records = length m.kinds; text = length m.text })
 
 -- what decoding answers where room for that many words is lent: a file with more words than that counts as wrong
-unfoldable pub decoded : Option Model → ℕ → File
-decoded none room = Wrong
-decoded (some m) room = if leb (length m.words) room then Parts (length m.kinds) (length m.text) else Wrong
+unfoldable pub decoded : Option Model → ℕ → Rust.Option Sizes
+decoded none room = None
+decoded (some m) room = if leb (length m.words) room then Some (record { records = length m.kinds; text = length m.text }) else None
 
 -- what the lent words hold after decoding: the words of the file and the rest as it was, or all as it was
 unfoldable pub words_after : Option Model → List ℕ → List ℕ
@@ -72,7 +73,7 @@ words_after none lent = lent
 words_after (some m) lent = if leb (length m.words) (length lent) then m.words ++ drop (length m.words) lent else lent
 
 -- the answer r to a file and the words that are lent after it, where `lent` were lent
-pub record Decoded (file lent : List ℕ) (r : File) (words : List ℕ) : Type 0 where
+pub record Decoded (file lent : List ℕ) (r : Rust.Option Sizes) (words : List ℕ) : Type 0 where
   pub answer : r ≡ decoded (parse file) (length lent)
   pub stored : words ≡ words_after (parse file) lent
 

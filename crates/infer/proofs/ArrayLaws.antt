@@ -3,11 +3,13 @@
 use Prim.Native.Nat.{ℕ, ◌+◌, ◌≤◌}
 use native.Mathlib.Omega.{arith}
 use mathlib.Core.Path.{◌≡◌, refl, sym, ap, ◌∙◌}
-use mathlib.Core.Bool.{Bool, true, false}
+use mathlib.Core.Bool.{Bool}
 use mathlib.Core.List.{List, [], ◌∷◌, ◌++◌, append-nil, append_assoc}
 use mathlib.Core.Option.{Option, none, some}
-use lib.ListN.{length, get_or, drop, length-append}
+use lib.ListN.{length, drop, length-append}
 use lib.Seq.{drop-drop}
+use Rattle.std.specs.Prelude as code
+use Rattle.std.specs.Prelude.{Some, None}
 use Rattle.lustre.specs.Name.{Name}
 use Rattle.lustre.specs.Types.{Ty}
 use Rattle.lustre.specs.Expr.{Expr, Exprs, ◌∷ᵉ◌, size, sizes}
@@ -16,26 +18,42 @@ use Rattle.lustre.specs.Grammar.{count}
 use Rattle.lustre.specs.Project.{Port}
 use Rattle.lustre.specs.Resolve.{Scope}
 use Rattle.lustre.specs.Infer.{infer, infers, operand, arrays}
+use Rattle.lustre.specs.declared.Records.{Records}
 use Rattle.input.specs.Depths.{depths, ShallowPorts, ShallowCastsEach}
-use Rattle.standing.specs.Standing.{source, ExprsAt, EachAt, PortAt, port_size}
+use Rattle.standing.specs.Standing.{ExprsAt, EachAt, PortAt, port_size}
 use Rattle.standing.proofs.Sizes.{FirstExpr, first_expr, no_exprs}
 use Rattle.lines.specs.Lines.{Said}
+use Rattle.lines.specs.declared.Lines.{Lines}
 use Rattle.lines.specs.declared.Spot.{Spot}
 use Rattle.lines.proofs.Laws.{said_return, said_go, said_stop}
-use Rattle.types.specs.Value.{Naming, asTy, maybe}
-use Rattle.types.specs.declared.Hint.{Hint}
-use Rattle.rules.specs.World.{World}
-use Rattle.rules.specs.Post.{Given, Inferring, HintIs}
+use Rattle.types.specs.Value.{Naming, asTy}
+use Rattle.types.specs.declared.Context.{Context}
+use Rattle.types.specs.declared.Typ.{Typ}
+use Rattle.types.specs.declared.records.TypeRead.{TypeRead}
+use Rattle.rules.specs.World.{WorldOf, source_of}
+use Rattle.rules.specs.Post.{Given, Inferring, value_if}
 use Rattle.rules.specs.Flags.{Flags, Beside}
-use Rattle.rules.specs.Iterators.{InputsHere, NextInput, array_if, Taking}
-use Rattle.rules.specs.Lists.{GivenArrays, DoneArrays, arrays_if}
-use Rattle.rules.specs.declared.Inferred.{Inferred}
+use Rattle.rules.specs.Iterators.{InputsOf, NextInput, Taking}
+use Rattle.rules.specs.Lists.{GivenArrays, DoneArrays}
+use Rattle.rules.specs.declared.Typed as answer
 use Rattle.rules.specs.declared.iterators.Kept.{Kept}
-use Rattle.rules.specs.declared.iterators.ArraysLeft.{ArraysLeft}
-use Rattle.rules.specs.declared.iterators.Input.{Input}
-use Rattle.rules.specs.declared.iterators.Taken.{Taken}
-use Rattle.rules.proofs.Laws.{false_true, maybe_no, maybe_yes}
-use Rattle.infer.proofs.Steps.{deep_more, casts_more, sizes_more}
+use Rattle.infer.proofs.Steps.{word_at, deep_more, casts_more, sizes_more}
+
+-- ---- the input beside an array
+
+-- the type of the next of the inputs, if there is one, and where the others are
+pub record Next (ctx : Context) (port left : ℕ) (x : InputsOf ctx.records port left) (want : code.Option Typ) (behind fewer : ℕ) : Type 0 where
+  pub beside : Beside x.text x.ps want
+  pub stand : EachAt (PortAt (source_of ctx.records x.text)) port_size (drop 1 x.ps) behind
+  pub few : ShallowPorts (drop 1 x.ps)
+  pub many : length (drop 1 x.ps) ≡ fewer
+
+module _ {ctx : Context} {port left : ℕ} {x : InputsOf ctx.records port left} where
+  pub next_some : {i : TypeRead} {fewer : ℕ} → NextInput ctx.records port left x (Some i) → fewer + 1 ≡ left → Next ctx port left x (Some i.typ) i.next fewer
+  next_some d e = record { beside = d.beside; stand = d.stand; few = d.few; many = omega (arith, d.many) }
+
+  pub next_none : NextInput ctx.records port left x None → Next ctx port left x None port left
+  next_none d = record { beside = d.beside; stand = d.stand; few = d.few; many = omega (arith, d.many, d.there) }
 
 -- ---- the arrays one after another
 
@@ -53,23 +71,23 @@ behind_more ds x none = refl
 behind_more ds x (some xs) = ap (λ (l : List (ℕ × Ty)). some l) (sym (append_assoc ds (x ∷ []) xs))
 
 -- an array before the others
-module _ {num : Name → ℕ} {q : Spot} {o o' : List ℕ} {n m : ℕ} (x : ℕ × Ty) where
-  said_more : {s : Out (List (ℕ × Ty))} (v : Option (List (ℕ × Ty))) → Said num q s v o n m o' → Said num q (s >>= λ xs. return (x ∷ xs)) (behind (x ∷ []) v) o n m o'
+module _ {num : Name → ℕ} {q : Spot} {l l' : Lines} (x : ℕ × Ty) where
+  said_more : {s : Out (List (ℕ × Ty))} (v : Option (List (ℕ × Ty))) → Said num q s v l l' → Said num q (s >>= λ xs. return (x ∷ xs)) (behind (x ∷ []) v) l l'
   said_more none d = said_stop _ refl d
   said_more (some xs) d = said_go _ xs refl d (said_return (x ∷ xs))
 
-module _ {num : Name → ℕ} {q : Spot} {o o₁ o' : List ℕ} {n m k : ℕ} (Γ : Scope) (f : Bool) (step at : ℕ) {es : Exprs} {e : Expr} {fs : Exprs} (is : es ≡ e ∷ᵉ fs) (x : ℕ × Ty) where
-  arrays_more : {u : Option (ℕ × Ty)} (v : Option (List (ℕ × Ty))) → u ≡ some x
-      → Said num q (operand Γ step (infer Γ f at e)) u o n m o₁ → Said num q (arrays Γ step (infers Γ f (at + size e) fs)) v o₁ m k o'
-      → Said num q (arrays Γ step (infers Γ f at es)) (behind (x ∷ []) v) o n k o'
+module _ {num : Name → ℕ} {q : Spot} {l l₁ l' : Lines} (Γ : Scope) (f : Bool) (step at : ℕ) {es : Exprs} {e : Expr} {fs : Exprs} (is : es ≡ e ∷ᵉ fs) (x : ℕ × Ty) where
+  arrays_more : (v : Option (List (ℕ × Ty)))
+      → Said num q (operand Γ step (infer Γ f at e)) (some x) l l₁ → Said num q (arrays Γ step (infers Γ f (at + size e) fs)) v l₁ l'
+      → Said num q (arrays Γ step (infers Γ f at es)) (behind (x ∷ []) v) l l'
   unfolding infer arrays
-  arrays_more v h d s = rw is (said_go _ x h d (said_more x v s))
+  arrays_more v d s = rw is (said_go _ x refl d (said_more x v s))
 
 -- What is left after the arrays ds: j operands from `next` on, with the inputs behind those of ds from `port` on, `left` of them; and the
 -- rest of the arrays says the rest of what all say.
-pub record Left (ks ws sc pk pw : List ℕ) (at list k step : ℕ) (g : GivenArrays ks ws sc pk pw at list k) (q : Spot) (o : List ℕ) (n : ℕ) (out : List ℕ) (kept : Kept) (next port left m j : ℕ) : Type 0 where
+pub record Left (ctx : Context) (side : Records) (at list k step : ℕ) (g : GivenArrays ctx side at list k) (q : Spot) (l : Lines) (kept : Kept) (next port left : ℕ) (now : Lines) (j : ℕ) : Type 0 where
   pub es : Exprs
-  pub stand : ExprsAt (source pk pw g.W.text) es next
+  pub stand : ExprsAt (source_of side g.W.text) es next
   pub many : count es ≡ j
   pub deep : g.d + depths es ≤ 61
   pub casts : ShallowCastsEach es
@@ -77,17 +95,17 @@ pub record Left (ks ws sc pk pw : List ℕ) (at list k step : ℕ) (g : GivenArr
   pub ds : List (ℕ × Ty)
   pub flags : Flags g.W.Γ g.W.text ds g.ps kept
   pub taken : length ds + j ≡ k
-  pub inputs : EachAt (PortAt (source ks ws g.W.text)) port_size (drop (length ds) g.ps) port
+  pub inputs : EachAt (PortAt (source_of ctx.records g.W.text)) port_size (drop (length ds) g.ps) port
   pub few : ShallowPorts (drop (length ds) g.ps)
   pub same : length (drop (length ds) g.ps) ≡ left
-  pub rest : {v : Option (List (ℕ × Ty))} {m' : ℕ} {o' : List ℕ}
-      → Said g.W.number q (arrays g.W.Γ step (infers g.W.Γ q.function next es)) v out m m' o'
-      → Said g.W.number q (arrays g.W.Γ step (infers g.W.Γ q.function at g.es)) (behind ds v) o n m' o'
+  pub rest : {v : Option (List (ℕ × Ty))} {l' : Lines}
+      → Said g.W.number q (arrays g.W.Γ step (infers g.W.Γ q.function next es)) v now l'
+      → Said g.W.number q (arrays g.W.Γ step (infers g.W.Γ q.function at g.es)) (behind ds v) l l'
 
 -- before the first
-pub left_start : {ks ws sc pk pw : List ℕ} {at list k step : ℕ} (g : GivenArrays ks ws sc pk pw at list k) {q : Spot} {o : List ℕ} {kept : Kept} {n j : ℕ}
+pub left_start : {ctx : Context} {side : Records} {at list k step : ℕ} (g : GivenArrays ctx side at list k) {q : Spot} {l : Lines} {kept : Kept} {j : ℕ}
     → j ≡ k → ((Γ : Scope) (ρ : Naming) (ps : List Port) → Flags Γ ρ [] ps kept)
-    → Left ks ws sc pk pw at list k step g q o n o kept at (list + 1) (get_or ws list 0) n j
+    → Left ctx side at list k step g q l kept at (list + 1) (word_at ctx.records list) l j
 left_start g e f = record {
   es = g.es;
   stand = g.stand;
@@ -104,102 +122,99 @@ left_start g e f = record {
   rest = λ {v} d. rw (behind_none v) d;
 }
 
-module _ {ks ws sc pk pw : List ℕ} {at list k step : ℕ} {g : GivenArrays ks ws sc pk pw at list k} {q : Spot} {o : List ℕ} {n : ℕ} {out : List ℕ} {kept : Kept} {next port left m j : ℕ}
-    (l : Left ks ws sc pk pw at list k step g q o n out kept next port left m j) where
+module _ {ctx : Context} {side : Records} {at list k step : ℕ} {g : GivenArrays ctx side at list k} {q : Spot} {l : Lines} {kept : Kept} {next port left : ℕ} {now : Lines} {j : ℕ}
+    (rem : Left ctx side at list k step g q l kept next port left now j) where
   -- the inputs that are left
-  abbrev pub left_inputs : InputsHere ks ws port left
-  left_inputs = record { text = g.W.text; ps = drop (length l.ds) g.ps; stand = l.inputs; few = l.few; many = l.same }
+  abbrev pub left_inputs : InputsOf ctx.records port left
+  left_inputs = record { text = g.W.text; ps = drop (length rem.ds) g.ps; stand = rem.inputs; few = rem.few; many = rem.same }
 
-  module _ (some_left : j ≡ 0 → ⊥) {h : Hint} (ih : (ρ : Naming) → HintIs ρ none 0 h) where
-    abbrev one : FirstExpr (source pk pw g.W.text) l.es next j
-    one = first_expr (source pk pw g.W.text) l.es next j l.many some_left l.stand
+  module _ (some_left : j ≡ 0 → ⊥) where
+    abbrev one : FirstExpr (source_of side g.W.text) rem.es next j
+    one = first_expr (source_of side g.W.text) rem.es next j rem.many some_left rem.stand
 
     -- the next operand
-    abbrev pub left_given : Given ks ws sc pk pw next h
+    abbrev pub left_given : Given ctx side next None
     left_given = record {
       W = g.W;
       e = one.e;
       stands = one.e_at;
       d = g.d;
       top = g.top;
-      deep = (deep_more one.is g.d l.deep).0;
-      casts = (casts_more one.is l.casts).0;
-      low = omega (arith, (ih g.W.text).low);
-      known = (ih g.W.text).known;
+      deep = (deep_more one.is g.d rem.deep).0;
+      casts = (casts_more one.is rem.casts).0;
+      known = tt;
     }
 
-    module _ {out₁ : List ℕ} {a : Inferred} (da : Inferring ks ws sc pk pw next h q out m a out₁) where
-      left_said : Said g.W.number q (infer g.W.Γ q.function next one.e none) (maybe g.W.text a.ok a.typ) out m a.n out₁
-      left_said = rw (ih g.W.text).is at (da left_given).said
+    -- it has no type: nor have the arrays
+    pub left_stop : {now₁ : Lines} → Inferring ctx side next None q now None now₁ → DoneArrays ctx side at list k step g q l None now₁
+    unfolding infer arrays operand
+    left_stop d = record {
+      ds = [];
+      said = rem.rest {v = none} (rw one.is (said_stop _ refl (said_stop _ refl (d left_given).said)));
+      flags = tt;
+      many = tt;
+      next = tt;
+    }
 
-      -- it has no type: nor have the arrays
-      pub left_stop : a.ok ≡ false → {r : ArraysLeft} → r.ok ≡ false → r.n ≡ a.n → DoneArrays ks ws sc pk pw at list k step g q o n r out₁
-      unfolding infer arrays operand
-      left_stop y f e = record {
+    module _ {now₁ : Lines} {a : answer.Typed} (da : Inferring ctx side next None q now (Some a) now₁)
+        {want : code.Option Typ} {behind' fewer : ℕ} (n : Next ctx port left left_inputs want behind' fewer) where
+      module _ (t : code.Option Kept) {now₂ : Lines}
+          (dt : (W : WorldOf ctx) (ds : List (ℕ × Ty)) (ps : List Port) → Flags W.Γ W.text ds ps kept → Beside W.text (drop (length ds) ps) want → Taking W step (asTy W.text a.typ) ds ps q now₁ t now₂) where
+        abbrev taking : Taking g.W step (asTy g.W.text a.typ) rem.ds g.ps q now₁ t now₂
+        taking = dt g.W rem.ds g.ps rem.flags n.beside
+
+        left_operand : Said g.W.number q (operand g.W.Γ step (infer g.W.Γ q.function next one.e)) (value_if t taking.x) now now₂
+        unfolding operand
+        left_operand = said_go _ (asTy g.W.text a.typ) refl (da left_given).said taking.said
+
+      -- it is no array: E0143
+      pub left_refused : {now₂ : Lines}
+          → ((W : WorldOf ctx) (ds : List (ℕ × Ty)) (ps : List Port) → Flags W.Γ W.text ds ps kept → Beside W.text (drop (length ds) ps) want → Taking W step (asTy W.text a.typ) ds ps q now₁ None now₂)
+          → DoneArrays ctx side at list k step g q l None now₂
+      unfolding infer arrays
+      left_refused dt = record {
         ds = [];
-        said = rw (ap (λ (b : Bool). arrays_if b []) f, e) (l.rest {v = none} (rw one.is (said_stop _ refl (said_stop _ (maybe_no g.W.text a.typ y) left_said))));
-        flags = λ z. false_true (sym f ∙ z);
-        many = λ z. false_true (sym f ∙ z);
-        next = λ z. false_true (sym f ∙ z);
+        said = rem.rest {v = none} (rw one.is (said_stop _ refl (left_operand None dt)));
+        flags = tt;
+        many = tt;
+        next = tt;
       }
 
-      module _ (y : a.ok ≡ true) where
-        pub left_low : a.typ.levels ≤ 127
-        left_low = omega (arith, (da left_given).low y, (ih g.W.text).low, g.top)
-
-        module _ {p : Input} (ip : (x : InputsHere ks ws port left) → NextInput ks ws port left x p) {t : Taken} {out₂ : List ℕ}
-            (dt : (W : World ks ws sc) (ds : List (ℕ × Ty)) (ps : List Port) → Flags W.Γ W.text ds ps kept → Beside W.text (drop (length ds) ps) p.has p.typ → Taking W step (asTy W.text a.typ) ds ps q out₁ a.n t out₂) where
-          abbrev taking : Taking g.W step (asTy g.W.text a.typ) l.ds g.ps q out₁ a.n t out₂
-          taking = dt g.W l.ds g.ps l.flags (ip left_inputs).beside
-
-          left_operand : Said g.W.number q (operand g.W.Γ step (infer g.W.Γ q.function next one.e)) (array_if t.ok taking.x) out m t.n out₂
-          unfolding operand
-          left_operand = said_go _ (asTy g.W.text a.typ) (maybe_yes g.W.text a.typ y) left_said taking.said
-
-          -- it is no array: E0143
-          pub left_refused : t.ok ≡ false → {r : ArraysLeft} → r.ok ≡ false → r.n ≡ t.n → DoneArrays ks ws sc pk pw at list k step g q o n r out₂
-          unfolding infer arrays
-          left_refused z f e = record {
-            ds = [];
-            said = rw (ap (λ (b : Bool). arrays_if b []) f, e) (l.rest {v = none} (rw one.is (said_stop _ (ap (λ (b : Bool). array_if b taking.x) z) left_operand)));
-            flags = λ u. false_true (sym f ∙ u);
-            many = λ u. false_true (sym f ∙ u);
-            next = λ u. false_true (sym f ∙ u);
+      -- one array more
+      pub left_step : {s : Kept} {now₂ : Lines} {i : ℕ}
+          → ((W : WorldOf ctx) (ds : List (ℕ × Ty)) (ps : List Port) → Flags W.Γ W.text ds ps kept → Beside W.text (drop (length ds) ps) want → Taking W step (asTy W.text a.typ) ds ps q now₁ (Some s) now₂)
+          → i + 1 ≡ j → Left ctx side at list k step g q l s a.next behind' fewer now₂ i
+      unfolding infer arrays
+      left_step {s} dt e =
+          let t : Taking g.W step (asTy g.W.text a.typ) rem.ds g.ps q now₁ (Some s) _ = taking (Some s) dt in
+          let long : length (rem.ds ++ (t.x ∷ [])) ≡ length rem.ds + 1 = length-append rem.ds (t.x ∷ []) in
+          let less : drop (length (rem.ds ++ (t.x ∷ []))) g.ps ≡ drop 1 (drop (length rem.ds) g.ps) = rw long (sym (drop-drop 1 (length rem.ds) g.ps)) in
+          record {
+            es = one.rest;
+            stand = rw (da left_given).next one.rest_at;
+            many = omega (arith, one.fewer);
+            deep = (deep_more one.is g.d rem.deep).1;
+            casts = (casts_more one.is rem.casts).1;
+            ends = omega (arith, (da left_given).next, rem.ends, sizes_more one.is);
+            ds = rem.ds ++ (t.x ∷ []);
+            flags = t.flags;
+            taken = omega (arith, long, rem.taken);
+            inputs = rw less n.stand;
+            few = rw less n.few;
+            same = rw less n.many;
+            rest = λ {v} u. rw (← behind_more rem.ds t.x v) (rem.rest {v = behind (t.x ∷ []) v} (arrays_more g.W.Γ q.function step next one.is t.x v (left_operand (Some s) dt) (rw (da left_given).next at u)));
           }
 
-          -- one array more
-          pub left_step : t.ok ≡ true → {i : ℕ} → i + 1 ≡ j
-              → Left ks ws sc pk pw at list k step g q o n out₂ t.kept a.next p.next p.left t.n i
-          unfolding infer arrays
-          left_step z {i} e =
-              let long : length (l.ds ++ (taking.x ∷ [])) ≡ length l.ds + 1 = length-append l.ds (taking.x ∷ []) in
-              let less : drop (length (l.ds ++ (taking.x ∷ []))) g.ps ≡ drop 1 (drop (length l.ds) g.ps) = rw long (sym (drop-drop 1 (length l.ds) g.ps)) in
-              record {
-                es = one.rest;
-                stand = rw ((da left_given).next y) one.rest_at;
-                many = omega (arith, one.fewer);
-                deep = (deep_more one.is g.d l.deep).1;
-                casts = (casts_more one.is l.casts).1;
-                ends = omega (arith, (da left_given).next y, l.ends, sizes_more one.is);
-                ds = l.ds ++ (taking.x ∷ []);
-                flags = taking.flags z;
-                taken = omega (arith, long, l.taken);
-                inputs = rw less (ip left_inputs).stand;
-                few = rw less (ip left_inputs).few;
-                same = rw less (ip left_inputs).many;
-                rest = λ {v} s. rw (← behind_more l.ds taking.x v) (l.rest {v = behind (taking.x ∷ []) v} (arrays_more g.W.Γ q.function step next one.is taking.x v (ap (λ (b : Bool). array_if b taking.x) z) left_operand (rw ((da left_given).next y) at s)));
-              }
-
   -- behind the last
-  pub left_end : j ≡ 0 → DoneArrays ks ws sc pk pw at list k step g q o n (record { ok = true; kept = kept; next = next; n = m }) out
+  pub left_end : j ≡ 0 → DoneArrays ctx side at list k step g q l (Some (record { kept = kept; next = next })) now
   unfolding infer arrays size
   left_end z =
-      let e = no_exprs l.es (l.many ∙ z) in
-      let v = rw e at l.ends in
+      let e = no_exprs rem.es (rem.many ∙ z) in
+      let v = rw e at rem.ends in
       record {
-        ds = l.ds;
-        said = rw (append-nil l.ds) at (l.rest {v = some []} {m' = m} {o' = out} (rw e (said_return [])));
-        flags = λ u. l.flags;
-        many = λ u. omega (arith, l.taken);
-        next = λ u. omega arith;
+        ds = rem.ds;
+        said = rw (append-nil rem.ds) at (rem.rest {v = some []} {l' = now} (rw e (said_return [])));
+        flags = rem.flags;
+        many = omega (arith, rem.taken);
+        next = omega arith;
       }

@@ -1,19 +1,21 @@
--- What each construct asks of the calls on its parts, and what their answers say of the whole: one law for each return of the code.
--- Lists of parts have files of their own: Arguments, Items, Values, Arrays, Iterators.
+-- What each construct asks of the calls on its parts, and what their answers say of the whole.
+-- Lists of parts have files of their own: Arguments, ItemLaws, ValueLaws, ArrayLaws, Iterators.
 -- Assumes nothing.
 use Prim.Native.Nat.{ℕ, ◌+◌, ◌-◌, ◌<◌, ◌≤◌, max}
 use native.Mathlib.Omega.{arith}
 use native.Mathlib.Decide.{dec_lt}
 use mathlib.Core.Path.{◌≡◌, refl, sym, ap, subst, ◌∙◌}
 use mathlib.Core.Bool.{Bool, true, false, ◌&&◌}
-use mathlib.Core.List.{List}
 use mathlib.Core.Option.{Option, none, some}
 use lib.Dec.{eqb}
 use lib.ListN.{length, get_or}
 use lib.IntN.{ℤ}
 use borrow.Author.Tests.{eqb-true}
+use Rattle.std.specs.Prelude as code
+use Rattle.std.specs.Prelude.{Some, None, IfSome}
+use Rattle.std.specs.Option.{option_or}
 use Rattle.lustre.specs.Types.{Ty, basic, levels, is_bool, is_integer}
-use Rattle.lustre.specs.Expr.{Literal, bool, int, float, char, UnaryOp, Not, Neg, BinOp, OpClass, op_class, Form, integer, temporal, iterator, calling, other, form, literal_form, size}
+use Rattle.lustre.specs.Expr.{Literal, bool, int, float, char, UnaryOp, Not, Neg, BinOp, op_class, Form, integer, temporal, iterator, calling, other, form, literal_form, size}
 use Rattle.lustre.specs.Expr.{Expr, const, var, unary, binary, ite, pre, arrow, call, field, index, tuple, array, struct, cast, when, merge, iterate, iterate_from}
 use Rattle.lustre.specs.Grammar.{literal_kind, unary_kind, when_kind, op_kind}
 use Rattle.lustre.specs.Line.{return}
@@ -21,27 +23,30 @@ use Rattle.lustre.specs.Answer.{no_value}
 use Rattle.lustre.specs.Resolve.{Scope}
 use Rattle.lustre.specs.Literal.{literal_type, integer_type}
 use Rattle.lustre.specs.Infer.{Typing, infer, res, or_else, sub_hint, right_hint, operands, agree_rule, binary_rule, both, if_rule, unary_of, unary_plain, unary_rule, var_rule, field_of, field_rule, index_of, index_rule, cast_of, cast_rule, clock, when_rule, merge_rule}
+use Rattle.lustre.specs.declared.Records.{Records}
 use Rattle.input.specs.Depths.{depth, ShallowCasts}
-use Rattle.standing.specs.Standing.{Source, source, ExprAt}
+use Rattle.standing.specs.Standing.{Source, ExprAt}
 use Rattle.standing.specs.Owed.{There}
 use Rattle.standing.proofs.Inversions.{OnePart, TwoParts, ThreeParts, Cast, WithName, op_at, op_kind_at, expr_record, expr_kind, const_here, var_here, unary_here, binary_here, ite_here, pre_here, arrow_here, field_here, index_here, tuple_here, cast_here, when_here, merge_here}
 use Rattle.standing.proofs.Sizes.{size_pos}
 use Rattle.lines.specs.Lines.{Noted}
+use Rattle.lines.specs.declared.Lines.{Lines}
 use Rattle.lines.specs.declared.Spot.{Spot}
-use Rattle.lines.proofs.Laws.{said_add}
-use Rattle.types.specs.Value.{Naming, asTy, maybe, bottom, Known, Bottom}
-use Rattle.types.specs.Number.{number_of, asHint, Hinted}
+use Rattle.lines.proofs.Laws.{said_pass, said_add}
+use Rattle.types.specs.Value.{Naming, asTy, bottom, Known, Bottom}
+use Rattle.types.specs.Number.{number_of, asHint}
 use Rattle.types.specs.Place.{IsTypeAt, Read}
+use Rattle.types.specs.declared.Context.{Context}
 use Rattle.types.specs.declared.Typ.{Typ}
-use Rattle.types.specs.declared.Hint.{Hint}
-use Rattle.rules.specs.World.{World, Typed}
-use Rattle.rules.specs.Post.{Given, Done, Ruled, LiteralRuled, Inferring, Failed, HintIs}
-use Rattle.rules.specs.Classes.{rank}
-use Rattle.rules.specs.declared.Inferred.{Inferred}
-use Rattle.rules.proofs.Laws.{false_true, go, stop, returned, refused, passed, after, lower, at_end}
+use Rattle.rules.specs.World.{WorldOf, source_of, Typed}
+use Rattle.rules.specs.Post.{Given, Done, Concludes, Ruled, LiteralRuled, Inferring, Failed, HintIs, hint_levels}
+use Rattle.rules.specs.Classes.{class_as}
+use Rattle.rules.specs.declared.Class.{Class}
+use Rattle.rules.specs.declared.Typed as answer
+use Rattle.rules.proofs.Laws.{false_true, go, stop, closed, closed_none, returned, refused, weaker, lower, at_end}
 use Rattle.rules.proofs.Places.{type_there, read_is, read_next}
-use Rattle.infer.specs.Post.{Kind, GivenBoth, DoneBoth}
-use Rattle.infer.proofs.Steps.{Whole}
+use Rattle.infer.specs.Post.{kind_at, Kind, GivenBoth, DoneBoth}
+use Rattle.infer.proofs.Steps.{word_at, HintedOf, Whole, Ends, onward, onward_then, hint_none, hint_basic}
 
 -- ---- forms
 
@@ -54,32 +59,32 @@ both_true false b h = false_true h
 -- the literal of an integer is of kind 41
 literal_integer : (l : Literal) (w : ℕ) (v : ℤ) → literal_form l w ≡ integer v → literal_kind l ≡ 41
 unfolding literal_form
-literal_integer bool w v h = absurd (let z : ◌≡◌ {A = ℕ} 0 1 = cc in omega arith)
+literal_integer bool w v h = cc
 literal_integer int w v h = refl
-literal_integer float w v h = absurd (let z : ◌≡◌ {A = ℕ} 0 1 = cc in omega arith)
-literal_integer char w v h = absurd (let z : ◌≡◌ {A = ℕ} 0 1 = cc in omega arith)
+literal_integer float w v h = cc
+literal_integer char w v h = cc
 
 -- an integer literal's record is of kind 41
 integer_kind : (S : Source) (e : Expr) (at : ℕ) (v : ℤ) → ExprAt S e at → form e ≡ integer v → get_or S.ks at 0 ≡ 41
 unfolding form ExprAt
 integer_kind S (const l w) at v s h = s.0.kind ∙ literal_integer l w v h
-integer_kind S (var x) at v s h = absurd (let z : ◌≡◌ {A = ℕ} 0 1 = cc in omega arith)
-integer_kind S (unary o e) at v s h = absurd (let z : ◌≡◌ {A = ℕ} 0 1 = cc in omega arith)
-integer_kind S (binary o a b) at v s h = absurd (let z : ◌≡◌ {A = ℕ} 0 1 = cc in omega arith)
-integer_kind S (ite c a b) at v s h = absurd (let z : ◌≡◌ {A = ℕ} 0 1 = cc in omega arith)
-integer_kind S (pre e) at v s h = absurd (let z : ◌≡◌ {A = ℕ} 0 1 = cc in omega arith)
-integer_kind S (arrow a b) at v s h = absurd (let z : ◌≡◌ {A = ℕ} 0 1 = cc in omega arith)
-integer_kind S (call f es) at v s h = absurd (let z : ◌≡◌ {A = ℕ} 0 1 = cc in omega arith)
-integer_kind S (field x e) at v s h = absurd (let z : ◌≡◌ {A = ℕ} 0 1 = cc in omega arith)
-integer_kind S (index a b) at v s h = absurd (let z : ◌≡◌ {A = ℕ} 0 1 = cc in omega arith)
-integer_kind S (tuple es) at v s h = absurd (let z : ◌≡◌ {A = ℕ} 0 1 = cc in omega arith)
-integer_kind S (array es) at v s h = absurd (let z : ◌≡◌ {A = ℕ} 0 1 = cc in omega arith)
-integer_kind S (struct x vs) at v s h = absurd (let z : ◌≡◌ {A = ℕ} 0 1 = cc in omega arith)
-integer_kind S (cast t e) at v s h = absurd (let z : ◌≡◌ {A = ℕ} 0 1 = cc in omega arith)
-integer_kind S (when on c e) at v s h = absurd (let z : ◌≡◌ {A = ℕ} 0 1 = cc in omega arith)
-integer_kind S (merge c a b) at v s h = absurd (let z : ◌≡◌ {A = ℕ} 0 1 = cc in omega arith)
-integer_kind S (iterate k f es) at v s h = absurd (let z : ◌≡◌ {A = ℕ} 0 1 = cc in omega arith)
-integer_kind S (iterate_from k f a es) at v s h = absurd (let z : ◌≡◌ {A = ℕ} 0 1 = cc in omega arith)
+integer_kind S (var x) at v s h = cc
+integer_kind S (unary o e) at v s h = cc
+integer_kind S (binary o a b) at v s h = cc
+integer_kind S (ite c a b) at v s h = cc
+integer_kind S (pre e) at v s h = cc
+integer_kind S (arrow a b) at v s h = cc
+integer_kind S (call f es) at v s h = cc
+integer_kind S (field x e) at v s h = cc
+integer_kind S (index a b) at v s h = cc
+integer_kind S (tuple es) at v s h = cc
+integer_kind S (array es) at v s h = cc
+integer_kind S (struct x vs) at v s h = cc
+integer_kind S (cast t e) at v s h = cc
+integer_kind S (when on c e) at v s h = cc
+integer_kind S (merge c a b) at v s h = cc
+integer_kind S (iterate k f es) at v s h = cc
+integer_kind S (iterate_from k f a es) at v s h = cc
 
 -- a unary operator that is no minus on an integer literal
 plainly : (Γ : Scope) (at : ℕ) (o : UnaryOp) (f : Form) (arg : Typing) (x : Option Ty) → (o ≡ Neg → (v : ℤ) → f ≡ integer v → ⊥) → unary_rule Γ at o f arg x ≡ unary_plain Γ at o arg x
@@ -94,98 +99,68 @@ plainly Γ at Neg other arg x h = refl
 -- ---- hints that a branch picks
 
 -- y is what an operator hands its right operand, if l is the left type and x the left operand's hint
-pub record RightHint (l : Typ) (x y : Hint) : Type 0 where
-  pub holds : (ρ : Naming) → HintIs ρ (right_hint (asTy ρ l) (asHint ρ x)) (max l.levels x.typ.levels) y
+pub record RightHint (l : Typ) (x y : code.Option Typ) : Type 0 where
+  pub holds : (ρ : Naming) → HintIs ρ (right_hint (asTy ρ l) (asHint ρ x)) (max l.levels (hint_levels x)) y
 
-module _ {l : Typ} {x y : Hint} {b : Bool} (fb : (ρ : Naming) → b ≡ is_integer (asTy ρ l)) where
+module _ {l : Typ} {x : code.Option Typ} {b : Bool} (fb : (ρ : Naming) → b ≡ is_integer (asTy ρ l)) where
   -- the left type, if it is an integer type
-  pub right_type : b ≡ true → {z : Hint} → ((ρ : Naming) → HintIs ρ (some (asTy ρ l)) l.levels z) → y ≡ z → RightHint l x y
+  pub right_type : b ≡ true → Known l → RightHint l x (Some l)
   unfolding right_hint
-  right_type t fz e = record { holds = λ ρ. let u = fz ρ in record { is = rw (e, ← fb ρ, t) u.is; low = rw e (omega (arith, u.low)); known = rw e u.known } }
+  right_type t k = record { holds = λ ρ. record { is = rw (← fb ρ, t) refl; low = omega arith; known = k } }
 
   -- the left operand's hint, if not
-  pub right_same : b ≡ false → Known x.typ → y ≡ x → RightHint l x y
+  pub right_same : b ≡ false → IfSome x Known → RightHint l x x
   unfolding right_hint
-  right_same f k e = record { holds = λ ρ. record { is = rw (e, ← fb ρ, f) refl; low = rw e (omega arith); known = rw e k } }
+  right_same f k = record { holds = λ ρ. record { is = rw (← fb ρ, f) refl; low = omega arith; known = k } }
 
--- y is what the second of two parts gets, if x is the hint of both and l the first one's type
-pub record SecondHint (l : Typ) (x y : Hint) : Type 0 where
-  pub holds : (ρ : Naming) → HintIs ρ (or_else (asHint ρ x) (asTy ρ l)) (max l.levels x.typ.levels) y
-
-module _ {l : Typ} {x y : Hint} where
-  -- the first one's type, if there is no hint
-  pub second_type : x.given ≡ false → {z : Hint} → ((ρ : Naming) → HintIs ρ (some (asTy ρ l)) l.levels z) → y ≡ z → SecondHint l x y
-  unfolding maybe or_else
-  second_type f fz e = record { holds = λ ρ. let u = fz ρ in record { is = rw (e, f) u.is; low = rw e (omega (arith, u.low)); known = rw e u.known } }
-
-  -- the hint, if there is one
-  pub second_same : x.given ≡ true → Known x.typ → y ≡ x → SecondHint l x y
-  unfolding maybe or_else
-  second_same t k e = record { holds = λ ρ. record { is = rw (e, t) refl; low = rw e (omega arith); known = rw e k } }
+-- what the second of two parts gets, if x is the hint of both and l the first one's type
+pub second_hint : (ρ : Naming) (l : Typ) (x : code.Option Typ) → Known l → IfSome x Known → HintIs ρ (or_else (asHint ρ x) (asTy ρ l)) (max l.levels (hint_levels x)) (option_or x (Some l))
+unfolding or_else
+second_hint ρ l None k i = record { is = refl; low = omega arith; known = k }
+second_hint ρ l (Some t) k i = record { is = refl; low = omega arith; known = i }
 
 -- ---- the place and its parts
 
--- a number that is not a bound is past it, or under it
-past : {k : ℕ} (n : ℕ) → n ≤ k → (k ≡ n → ⊥) → n + 1 ≤ k
-past n h d = omega arith
-
-under : {k : ℕ} (n : ℕ) → k ≤ n + 1 → (k ≡ n + 1 → ⊥) → k ≤ n
-under n h d = omega arith
-
--- an expression has a level
-depth_pos : (e : Expr) → 1 ≤ depth e
-unfolding depth
-depth_pos (const l w) = omega arith
-depth_pos (var x) = omega arith
-depth_pos (unary o e) = omega arith
-depth_pos (binary o a b) = omega arith
-depth_pos (ite c a b) = omega arith
-depth_pos (pre e) = omega arith
-depth_pos (arrow a b) = omega arith
-depth_pos (call f es) = omega arith
-depth_pos (field x e) = omega arith
-depth_pos (index a b) = omega arith
-depth_pos (tuple es) = omega arith
-depth_pos (array es) = omega arith
-depth_pos (struct x vs) = omega arith
-depth_pos (cast t e) = omega arith
-depth_pos (when on c e) = omega arith
-depth_pos (merge c a b) = omega arith
-depth_pos (iterate k f es) = omega arith
-depth_pos (iterate_from k f a es) = omega arith
-
-module _ {ks ws sc pk pw : List ℕ} {at : ℕ} {h : Hint} (g : Given ks ws sc pk pw at h) where
+module _ {ctx : Context} {side : Records} {at : ℕ} {h : code.Option Typ} (g : Given ctx side at h) where
   abbrev src : Source
-  src = source pk pw g.W.text
+  src = source_of side g.W.text
 
-  pub inside : at < length pk
+  pub inside : at < length side.kinds.now
   inside = (expr_record src g.e at g.stands).in_kinds
 
-  pub inside_words : at < length pw
+  pub inside_words : at < length side.words.now
   inside_words = (expr_record src g.e at g.stands).in_words
 
-  pub kinds : (40 ≤ get_or pk at 0) × (get_or pk at 0 ≤ 83)
+  pub kinds : (40 ≤ kind_at side at) × (kind_at side at ≤ 83)
   kinds = expr_kind src g.e at g.stands
 
   -- a kind below 44 is a literal's
-  pub literal_here : get_or pk at 0 < 44 → Kind literal_kind pk at
-  literal_here l = pick (dec_lt (get_or pk at 0) 41) (dec_lt (get_or pk at 0) 42) (dec_lt (get_or pk at 0) 43)
+  pub literal_here : kind_at side at < 44 → Kind literal_kind side at
+  literal_here l = pick (dec_lt (kind_at side at) 41) (dec_lt (kind_at side at) 42) (dec_lt (kind_at side at) 43)
     where
-      pick : Dec (get_or pk at 0 < 41) → Dec (get_or pk at 0 < 42) → Dec (get_or pk at 0 < 43) → Kind literal_kind pk at
+      pick : Dec (kind_at side at < 41) → Dec (kind_at side at < 42) → Dec (kind_at side at < 43) → Kind literal_kind side at
       pick (yes x) b c = record { which = bool; is = omega (arith, kinds.0) }
       pick (no x) (yes y) c = record { which = int; is = omega arith }
       pick (no x) (no y) (yes z) = record { which = float; is = omega arith }
       pick (no x) (no y) (no z) = record { which = char; is = omega arith }
 
-  -- a kind that no other construct has is an operator's
-  pub operator : 44 ≤ get_or pk at 0 → (get_or pk at 0 ≡ 44 → ⊥) → (get_or pk at 0 ≡ 45 → ⊥) → (get_or pk at 0 ≡ 46 → ⊥) → (get_or pk at 0 ≡ 67 → ⊥) → (get_or pk at 0 ≡ 68 → ⊥) → (get_or pk at 0 ≡ 69 → ⊥) → (get_or pk at 0 ≡ 70 → ⊥) → (get_or pk at 0 ≡ 71 → ⊥) → (get_or pk at 0 ≡ 72 → ⊥) → (get_or pk at 0 ≡ 73 → ⊥) → (get_or pk at 0 ≡ 74 → ⊥) → (get_or pk at 0 ≡ 75 → ⊥) → (get_or pk at 0 ≡ 76 → ⊥) → (get_or pk at 0 ≡ 77 → ⊥) → (get_or pk at 0 ≡ 78 → ⊥) → (get_or pk at 0 ≡ 79 → ⊥) → (get_or pk at 0 ≡ 80 → ⊥) → (get_or pk at 0 ≡ 81 → ⊥) → (get_or pk at 0 ≡ 82 → ⊥) → (get_or pk at 0 ≡ 83 → ⊥) → (47 ≤ get_or pk at 0) × (get_or pk at 0 ≤ 66)
-  operator a n44 n45 n46 n67 n68 n69 n70 n71 n72 n73 n74 n75 n76 n77 n78 n79 n80 n81 n82 n83 = (past 46 (past 45 (past 44 a n44) n45) n46, under 66 (under 67 (under 68 (under 69 (under 70 (under 71 (under 72 (under 73 (under 74 (under 75 (under 76 (under 77 (under 78 (under 79 (under 80 (under 81 (under 82 kinds.1 n83) n82) n81) n80) n79) n78) n77) n76) n75) n74) n73) n72) n71) n70) n69) n68) n67)
+  -- the kinds of a unary operator and of a `when`
+  pub unary_of_kind : 45 ≤ kind_at side at → kind_at side at ≤ 46 → Kind unary_kind side at
+  unary_of_kind a b = pick (dec_lt (kind_at side at) 46)
+    where
+      pick : Dec (kind_at side at < 46) → Kind unary_kind side at
+      pick (yes x) = record { which = Not; is = omega arith }
+      pick (no x) = record { which = Neg; is = omega arith }
 
-  pub level : g.d ≤ 60
-  level = omega (arith, depth_pos g.e, g.deep)
+  pub when_of_kind : 77 ≤ kind_at side at → kind_at side at ≤ 78 → Kind when_kind side at
+  when_of_kind a b = pick (dec_lt (kind_at side at) 78)
+    where
+      pick : Dec (kind_at side at < 78) → Kind when_kind side at
+      pick (yes x) = record { which = true; is = omega arith }
+      pick (no x) = record { which = false; is = omega arith }
 
   -- what `skip` asks
-  abbrev pub there : There pk pw at
+  abbrev pub there : There side.kinds.now side.words.now at
   there = record { text = g.W.text; e = g.e; stands = g.stands }
 
   -- a part one level below
@@ -194,24 +169,24 @@ module _ {ks ws sc pk pw : List ℕ} {at : ℕ} {h : Hint} (g : Given ks ws sc p
     pub casts : ShallowCasts a
 
   -- the whole's own hint
-  own : HintIs g.W.text (asHint g.W.text h) h.typ.levels h
+  own : HintIs g.W.text (asHint g.W.text h) (hint_levels h) h
   own = record { is = refl; low = omega arith; known = g.known }
 
   -- a part a that stands at p, where the code finds it, under a hint
-  module _ {a : Expr} (i : Below a) {p : ℕ} (s : ExprAt src a p) {mid : ℕ} (e : mid ≡ p) {x : Hint} {y : Option Ty} {high : ℕ} (hx : HintIs g.W.text y high x) (l : high ≤ 127) where
-    abbrev part : Given ks ws sc pk pw mid x
-    part = record { W = g.W; e = a; stands = rw e s; d = g.d + 1; top = omega arith; deep = i.deep; casts = i.casts; low = omega (arith, hx.low); known = hx.known }
+  module _ {a : Expr} (i : Below a) {p : ℕ} (s : ExprAt src a p) {mid : ℕ} (e : mid ≡ p) {x : code.Option Typ} {y : Option Ty} {high : ℕ} (hx : HintIs g.W.text y high x) where
+    abbrev part : Given ctx side mid x
+    part = record { W = g.W; e = a; stands = rw e s; d = g.d + 1; top = omega arith; deep = i.deep; casts = i.casts; known = hx.known }
 
     -- what the call on it said
-    said : {q : Spot} {o o' : List ℕ} {n : ℕ} {r : Inferred} → Inferring ks ws sc pk pw mid x q o n r o'
-        → Done g.W.number g.W.text q (infer g.W.Γ q.function p a y) (p + size a) (max (127 - g.d) high) o n r o'
-    said {q} {o} {o'} {n} {r} d =
-        lower {high₁ = max (128 - (g.d + 1)) x.typ.levels} (omega (arith, hx.low))
-        (rw hx.is at (subst (λ (j : ℕ). Done g.W.number g.W.text q (infer g.W.Γ q.function j a (asHint g.W.text x)) (j + size a) (max (128 - (g.d + 1)) x.typ.levels) o n r o') e (d part)))
+    said : {q : Spot} {l l' : Lines} {r : code.Option answer.Typed} → Inferring ctx side mid x q l r l'
+        → Done g.W.number g.W.text q (infer g.W.Γ q.function p a y) (p + size a) (max (127 - g.d) high) l r l'
+    said {q} {l} {l'} {r} d =
+        lower {high₁ = max (128 - (g.d + 1)) (hint_levels x)} (omega (arith, hx.low))
+        (rw hx.is at (subst (λ (j : ℕ). Done g.W.number g.W.text q (infer g.W.Γ q.function j a (asHint g.W.text x)) (j + size a) (max (128 - (g.d + 1)) (hint_levels x)) l r l') e (d part)))
 
   -- two parts one after the other, under the whole's own hint
   module _ {a b : Expr} (i : Below a) (j : Below b) {p : ℕ} (s : ExprAt src a p) (t : ExprAt src b (p + size a)) {mid : ℕ} (e : mid ≡ p) where
-    abbrev pair : GivenBoth ks ws sc pk pw mid h
+    abbrev pair : GivenBoth ctx side mid h
     pair = record {
       W = g.W;
       a = a;
@@ -224,49 +199,56 @@ module _ {ks ws sc pk pw : List ℕ} {at : ℕ} {h : Hint} (g : Given ks ws sc p
       deep_b = j.deep;
       casts_a = i.casts;
       casts_b = j.casts;
-      low = g.low;
       known = g.known;
     }
 
     -- what the call on them said
-    said_both : (step code : ℕ) {q : Spot} {o o' : List ℕ} {n : ℕ} {r : Inferred} → DoneBoth ks ws sc pk pw mid step code h q o n r o'
+    said_both : (step c : ℕ) {q : Spot} {l l' : Lines} {r : code.Option answer.Typed} → DoneBoth ctx side mid step c h q l r l'
         → Done g.W.number g.W.text q
-        (both g.W.Γ step code (infer g.W.Γ q.function p a) (infer g.W.Γ q.function (p + size a) b) (asHint g.W.text h))
-        (p + size a + size b) (max (128 - g.d) h.typ.levels) o n r o'
-    said_both step code {q} {o} {o'} {n} {r} d =
-        lower {high₁ = max (128 - (g.d + 1)) h.typ.levels} (omega arith)
-        (subst (λ (k : ℕ). Done g.W.number g.W.text q (both g.W.Γ step code (infer g.W.Γ q.function k a) (infer g.W.Γ q.function (k + size a) b) (asHint g.W.text h)) (k + size a + size b) (max (128 - (g.d + 1)) h.typ.levels) o n r o') e (d pair))
+        (both g.W.Γ step c (infer g.W.Γ q.function p a) (infer g.W.Γ q.function (p + size a) b) (asHint g.W.text h))
+        (p + size a + size b) (max (128 - g.d) (hint_levels h)) l r l'
+    said_both step c {q} {l} {l'} {r} d =
+        lower {high₁ = max (128 - (g.d + 1)) (hint_levels h)} (omega arith)
+        (subst (λ (k : ℕ). Done g.W.number g.W.text q (both g.W.Γ step c (infer g.W.Γ q.function k a) (infer g.W.Γ q.function (k + size a) b) (asHint g.W.text h)) (k + size a + size b) (max (128 - (g.d + 1)) (hint_levels h)) l r l') e (d pair))
 
   -- ---- literals, variables, tuples
 
-  pub literal_done : Kind literal_kind pk at → {q : Spot} {o o' : List ℕ} {n t : ℕ} {r : Inferred} → ((l : Literal) → literal_kind l ≡ get_or pk at 0 → Hinted ks ws sc h (λ al. literal_type al l (get_or pw at 0)) t)
-      → LiteralRuled q at t (at + 1) o n r o' → Whole g q o n r o'
-  unfolding infer size
-  literal_done k f d =
-      let w = const_here src g.e at g.stands k.which k.is in
-      let u = (f k.which (sym k.is)).type g.W.text g.W.Γ.alias g.W.alias in
-      rw w (lower (omega arith) (d g.W.number g.W.text _ u))
+  pub literal_done : Kind literal_kind side at → {q : Spot} {l l' : Lines} {k : code.Option ℕ} {r : code.Option Typ}
+      → ((c : Literal) → literal_kind c ≡ kind_at side at → HintedOf ctx h (λ al. literal_type al c (word_at side at)) k)
+      → LiteralRuled q at k l r l' → Ends g q l r l'
+  unfolding infer
+  literal_done c f d =
+      let w = const_here src g.e at g.stands c.which c.is in
+      let u = (f c.which (sym c.is)).type g.W.text g.W.Γ.alias g.W.alias in
+      rw w (weaker (omega arith) (d g.W.number g.W.text _ u))
 
-  module _ (k : get_or pk at 0 ≡ 44) where
-    pub var_small : get_or pw at 0 < 512
+  pub literal_next : Kind literal_kind side at → at + 1 ≡ at + size g.e
+  unfolding size
+  literal_next c = rw (const_here src g.e at g.stands c.which c.is) refl
+
+  module _ (k : kind_at side at ≡ 44) where
+    pub var_small : word_at side at < 512
     var_small = (var_here src g.e at g.stands k).name.small
 
-    pub var_done : {q : Spot} {o o' : List ℕ} {n : ℕ} {r : Inferred} → Ruled ks ws sc q (λ W. var_rule W.Γ at (W.text (get_or pw at 0))) (at + 1) 67 o n r o' → Whole g q o n r o'
-    unfolding infer size
+    pub var_done : {q : Spot} {l l' : Lines} {r : code.Option Typ} → Ruled ctx q (λ W. var_rule W.Γ at (W.text (word_at side at))) 67 l r l' → Ends g q l r l'
+    unfolding infer
     var_done f =
         let w = var_here src g.e at g.stands k in
-        rw w.holds (lower (omega (arith, level)) (rw w.name.text at (f g.W)))
+        rw w.holds (weaker (omega (arith, g.deep)) (rw w.name.text at (f g.W)))
 
-  pub tuple_done : get_or pk at 0 ≡ 73 → {q : Spot} {o : List ℕ} {n : ℕ} {t : Typ} {next : ℕ} → Bottom 34 (get_or pw at 0) t → ((t : There pk pw at) → next ≡ at + size t.e)
-      → Whole g q o n (record { ok = true; typ = t; next = next; n = n }) o
+    pub var_next : at + 1 ≡ at + size g.e
+    unfolding size
+    var_next = rw (var_here src g.e at g.stands k).holds refl
+
+  pub tuple_done : kind_at side at ≡ 73 → {q : Spot} {l : Lines} {t : Typ} → Bottom 34 (word_at side at) t → Ends g q l (Some t) l
   unfolding infer bottom
-  tuple_done k {t = t} b f =
+  tuple_done k {t = t} b =
       let w = tuple_here src g.e at g.stands k in
-      returned t (omega (arith, b.flat)) (λ e. absurd (omega (arith, b.base))) (f there) (rw (w.is, ← w.many) (ap (λ (x : Ty). return x) (sym (b.is g.W.text))))
+      returned t (omega (arith, b.flat)) (λ e. absurd (omega (arith, b.base))) (rw (w.is, ← w.many) (ap (λ (x : Ty). return x) (sym (b.is g.W.text))))
 
   -- ---- unary operators
 
-  module _ (k : Kind unary_kind pk at) where
+  module _ (k : Kind unary_kind side at) where
     unary_w : OnePart src (unary k.which) g.e at
     unary_w = unary_here src g.e at g.stands k.which k.is
 
@@ -274,32 +256,42 @@ module _ {ks ws sc pk pw : List ℕ} {at : ℕ} {h : Hint} (g : Given ks ws sc p
     unfolding depth ShallowCasts
     unary_below = record { deep = let z = rw unary_w.is at g.deep in omega arith; casts = rw unary_w.is at g.casts }
 
-    pub unary_in : at + 1 < length pk
+    pub unary_in : at + 1 < length side.kinds.now
     unary_in = (expr_record src unary_w.a (at + 1) unary_w.a_at).in_kinds
 
-    pub unary_words : at + 1 < length pw
+    pub unary_words : at + 1 < length side.words.now
     unary_words = (expr_record src unary_w.a (at + 1) unary_w.a_at).in_words
 
-    pub unary_given : Given ks ws sc pk pw (at + 1) h
-    unary_given = part unary_below unary_w.a_at refl own g.low
+    pub unary_given : Given ctx side (at + 1) h
+    unary_given = part unary_below unary_w.a_at refl own
 
-    module _ {b : Bool} (eb : b ≡ (eqb (get_or pk at 0) 46 && eqb (get_or pk (at + 1) 0) 41)) where
+    unary_end : at + size g.e ≡ at + 1 + size unary_w.a
+    unfolding size
+    unary_end = ap (λ (x : Expr). at + size x) unary_w.is ∙ omega arith
+
+    module _ {b : Bool} (eb : b ≡ (eqb (kind_at side at) 46 && eqb (kind_at side (at + 1)) 41)) where
       -- a minus directly on an integer literal
-      pub unary_literal : b ≡ true → {q : Spot} {o o' : List ℕ} {n t : ℕ} {r : Inferred} → Hinted ks ws sc h (λ al. integer_type al (number_of true (get_or pw (at + 1) 0))) t
-          → LiteralRuled q at t (at + 2) o n r o' → Whole g q o n r o'
-      unfolding infer size unary_rule form literal_form
-      unary_literal y f d =
-          let z = both_true _ _ (sym eb ∙ y) in
-          let m = unary_here src g.e at g.stands Neg (eqb-true _ _ z.0) in
-          let w = const_here src m.a (at + 1) m.a_at int (eqb-true _ _ z.1) in
-          let u = f.type g.W.text g.W.Γ.alias g.W.alias in
-          rw (m.is, w) (at_end (omega arith) (lower (omega arith) (d g.W.number g.W.text _ u)))
+      module _ (y : b ≡ true) where
+        signed_w : OnePart src (unary Neg) g.e at
+        signed_w = unary_here src g.e at g.stands Neg (eqb-true _ _ (both_true _ _ (sym eb ∙ y)).0)
+
+        signed_is : signed_w.a ≡ const int (word_at side (at + 1))
+        signed_is = const_here src signed_w.a (at + 1) signed_w.a_at int (eqb-true _ _ (both_true _ _ (sym eb ∙ y)).1)
+
+        pub unary_literal : {q : Spot} {l l' : Lines} {i : code.Option ℕ} {r : code.Option Typ} → HintedOf ctx h (λ al. integer_type al (number_of true (word_at side (at + 1)))) i
+            → LiteralRuled q at i l r l' → Ends g q l r l'
+        unfolding infer unary_rule form literal_form
+        unary_literal f d = rw (signed_w.is, signed_is) (weaker (omega arith) (d g.W.number g.W.text _ (f.type g.W.text g.W.Γ.alias g.W.alias)))
+
+        pub unary_literal_next : at + 2 ≡ at + size g.e
+        unfolding size
+        unary_literal_next = rw (signed_w.is, signed_is) refl
 
       module _ (nb : b ≡ false) where
         unary_not : k.which ≡ Neg → (v : ℤ) → form unary_w.a ≡ integer v → ⊥
         unary_not e v f =
-            let x : get_or pk at 0 ≡ 46 = k.is ∙ ap unary_kind e in
-            let y : get_or pk (at + 1) 0 ≡ 41 = integer_kind src unary_w.a (at + 1) v unary_w.a_at f in
+            let x : kind_at side at ≡ 46 = k.is ∙ ap unary_kind e in
+            let y : kind_at side (at + 1) ≡ 41 = integer_kind src unary_w.a (at + 1) v unary_w.a_at f in
             false_true (sym nb ∙ eb ∙ rw (x, y) refl)
 
         unary_plainly : (q : Spot) → infer g.W.Γ q.function at g.e (asHint g.W.text h) ≡ unary_plain g.W.Γ at k.which (infer g.W.Γ q.function (at + 1) unary_w.a) (asHint g.W.text h)
@@ -308,32 +300,31 @@ module _ {ks ws sc pk pw : List ℕ} {at : ℕ} {h : Hint} (g : Given ks ws sc p
             ap (λ (x : Expr). infer g.W.Γ q.function at x (asHint g.W.text h)) unary_w.is
             ∙ plainly g.W.Γ at k.which (form unary_w.a) (infer g.W.Γ q.function (at + 1) unary_w.a) (asHint g.W.text h) unary_not
 
-        unary_end : at + size g.e ≡ at + 1 + size unary_w.a
-        unfolding size
-        unary_end = ap (λ (x : Expr). at + size x) unary_w.is ∙ omega arith
+        pub unary_stop : {q : Spot} {l l₁ : Lines} → Inferring ctx side (at + 1) h q l None l₁ → Whole g q l None l₁
+        unfolding unary_plain
+        unary_stop d = rw (unary_plainly _) (closed_none (stop _ (said unary_below unary_w.a_at refl own d)))
 
-        module _ {q : Spot} {o o₁ : List ℕ} {n : ℕ} {a : Inferred} (da : Inferring ks ws sc pk pw (at + 1) h q o n a o₁) where
-          unary_1 : Done g.W.number g.W.text q (infer g.W.Γ q.function (at + 1) unary_w.a (asHint g.W.text h)) (at + 1 + size unary_w.a) (max (127 - g.d) h.typ.levels) o n a o₁
-          unary_1 = said unary_below unary_w.a_at refl own g.low da
+        module _ {q : Spot} {l l₁ : Lines} {a : answer.Typed} (da : Inferring ctx side (at + 1) h q l (Some a) l₁) where
+          unary_1 : Done g.W.number g.W.text q (infer g.W.Γ q.function (at + 1) unary_w.a (asHint g.W.text h)) (at + 1 + size unary_w.a) (max (127 - g.d) (hint_levels h)) l (Some a) l₁
+          unary_1 = said unary_below unary_w.a_at refl own da
 
-          pub unary_known : a.ok ≡ true → Known a.typ
-          unary_known f = unary_1.known f
+          pub unary_known : Known a.typ
+          unary_known = unary_1.known
 
-          pub unary_stop : a.ok ≡ false → Whole g q o n a o₁
+          pub unary_next : a.next ≡ at + size g.e
+          unary_next = unary_1.next ∙ sym unary_end
+
+          pub unary_done : {l₂ : Lines} {r : code.Option Typ}
+              → ((o : UnaryOp) → unary_kind o ≡ kind_at side at → Ruled ctx q (λ W. unary_of W.Γ at o (asTy W.text a.typ)) a.typ.levels l₁ r l₂)
+              → Ends g q l r l₂
           unfolding unary_plain
-          unary_stop f = rw (unary_plainly q) (stop _ f unary_1)
-
-          pub unary_done : a.ok ≡ true → {o₂ : List ℕ} {r : Inferred}
-              → ((o : UnaryOp) → unary_kind o ≡ get_or pk at 0 → Ruled ks ws sc q (λ W. unary_of W.Γ at o (asTy W.text a.typ)) a.next a.typ.levels o₁ a.n r o₂)
-              → Whole g q o n r o₂
-          unfolding unary_plain
-          unary_done f d = rw (unary_plainly q) (go _ f unary_1 (at_end (unary_1.next f ∙ sym unary_end) (lower (omega (arith, unary_1.low f)) (d k.which (sym k.is) g.W))))
+          unary_done d = rw (unary_plainly q) (go _ unary_1 (weaker (omega (arith, unary_1.low)) (d k.which (sym k.is) g.W)))
 
   -- ---- binary operators
 
-  module _ (k₁ : 47 ≤ get_or pk at 0) (k₂ : get_or pk at 0 ≤ 66) where
-    bin_w : TwoParts src (binary (op_at (get_or pk at 0))) g.e at
-    bin_w = binary_here src g.e at g.stands (get_or pk at 0) refl k₁ k₂
+  module _ (k₁ : 47 ≤ kind_at side at) (k₂ : kind_at side at ≤ 66) where
+    bin_w : TwoParts src (binary (op_at (kind_at side at))) g.e at
+    bin_w = binary_here src g.e at g.stands (kind_at side at) refl k₁ k₂
 
     bin_below : Below bin_w.a × Below bin_w.b
     unfolding depth ShallowCasts
@@ -342,63 +333,53 @@ module _ {ks ws sc pk pw : List ℕ} {at : ℕ} {h : Hint} (g : Given ks ws sc p
         let c = rw bin_w.is at g.casts in
         (record { deep = omega arith; casts = c.0 }, record { deep = omega arith; casts = c.1 })
 
-    abbrev bin_class : OpClass
-    bin_class = op_class (op_at (get_or pk at 0))
+    module _ (c : Class) (fc : (o : BinOp) → op_kind o ≡ kind_at side at → class_as c ≡ op_class o) {x : code.Option Typ} (fx : (ρ : Naming) → HintIs ρ (sub_hint (class_as c) (asHint ρ h)) (hint_levels h) x) where
+      bin_class : class_as c ≡ op_class (op_at (kind_at side at))
+      bin_class = fc (op_at (kind_at side at)) (op_kind_at (kind_at side at) k₁ k₂)
 
-    module _ {c : ℕ} (fc : (o : BinOp) → op_kind o ≡ get_or pk at 0 → rank (op_class o) ≡ c) {x : Hint} (fx : (ρ : Naming) (k : OpClass) → rank k ≡ c → HintIs ρ (sub_hint k (asHint ρ h)) h.typ.levels x) where
-      bin_rank : rank bin_class ≡ c
-      bin_rank = fc (op_at (get_or pk at 0)) (op_kind_at (get_or pk at 0) k₁ k₂)
+      pub bin_first : Given ctx side (at + 1) x
+      bin_first = part bin_below.0 bin_w.a_at refl (fx g.W.text)
 
-      bin_hint : HintIs g.W.text (sub_hint bin_class (asHint g.W.text h)) h.typ.levels x
-      bin_hint = fx g.W.text bin_class bin_rank
+      pub bin_stop : {q : Spot} {l l₁ : Lines} → Inferring ctx side (at + 1) x q l None l₁ → Whole g q l None l₁
+      unfolding infer binary_rule
+      bin_stop d = rw (bin_w.is, ← bin_class) (closed_none (stop _ (said bin_below.0 bin_w.a_at refl (fx g.W.text) d)))
 
-      pub bin_first : Given ks ws sc pk pw (at + 1) x
-      bin_first = part bin_below.0 bin_w.a_at refl bin_hint g.low
+      module _ {q : Spot} {l l₁ : Lines} {a : answer.Typed} (da : Inferring ctx side (at + 1) x q l (Some a) l₁) where
+        bin_1 : Done g.W.number g.W.text q (infer g.W.Γ q.function (at + 1) bin_w.a (sub_hint (class_as c) (asHint g.W.text h))) (at + 1 + size bin_w.a) (max (127 - g.d) (hint_levels h)) l (Some a) l₁
+        bin_1 = said bin_below.0 bin_w.a_at refl (fx g.W.text) da
 
-      module _ {q : Spot} {o o₁ : List ℕ} {n : ℕ} {a : Inferred} (da : Inferring ks ws sc pk pw (at + 1) x q o n a o₁) where
-        bin_1 : Done g.W.number g.W.text q (infer g.W.Γ q.function (at + 1) bin_w.a (sub_hint bin_class (asHint g.W.text h))) (at + 1 + size bin_w.a) (max (127 - g.d) h.typ.levels) o n a o₁
-        bin_1 = said bin_below.0 bin_w.a_at refl bin_hint g.low da
+        pub bin_known : Known a.typ
+        bin_known = bin_1.known
 
-        pub bin_stop : a.ok ≡ false → Whole g q o n a o₁
-        unfolding infer binary_rule
-        bin_stop f = rw bin_w.is (stop _ f bin_1)
+        pub bin_next : at + 1 < a.next
+        bin_next = omega (arith, bin_1.next, size_pos bin_w.a)
 
-        module _ (f : a.ok ≡ true) where
-          pub bin_known : Known a.typ
-          bin_known = bin_1.known f
+        module _ {y : code.Option Typ} (fy : RightHint a.typ x y) where
+          bin_hint : HintIs g.W.text (right_hint (asTy g.W.text a.typ) (sub_hint (class_as c) (asHint g.W.text h))) (max a.typ.levels (hint_levels x)) y
+          bin_hint = rw (fx g.W.text).is at (fy.holds g.W.text)
 
-          pub bin_left : a.typ.levels ≤ 127
-          bin_left = omega (arith, bin_1.low f, g.low, g.top)
+          pub bin_second : Given ctx side a.next y
+          bin_second = part bin_below.1 bin_w.b_at bin_1.next bin_hint
 
-          pub bin_next : at + 1 < a.next
-          bin_next = omega (arith, bin_1.next f, size_pos bin_w.a)
+          pub bin_stop₂ : {l₂ : Lines} → Inferring ctx side a.next y q l₁ None l₂ → Whole g q l None l₂
+          unfolding infer binary_rule
+          bin_stop₂ d = rw (bin_w.is, ← bin_class) (closed_none (go _ bin_1 (stop _ (said bin_below.1 bin_w.b_at bin_1.next bin_hint d))))
 
-          module _ {y : Hint} (fy : RightHint a.typ x y) where
-            bin_hint₂ : HintIs g.W.text (right_hint (asTy g.W.text a.typ) (sub_hint bin_class (asHint g.W.text h))) 127 y
-            bin_hint₂ =
-                let u = fy.holds g.W.text in
-                record { is = u.is ∙ ap (right_hint (asTy g.W.text a.typ)) bin_hint.is; low = omega (arith, u.low, bin_left, bin_hint.low, g.low); known = u.known }
+          module _ {l₂ : Lines} {b : answer.Typed} (db : Inferring ctx side a.next y q l₁ (Some b) l₂) where
+            bin_2 : Done g.W.number g.W.text q (infer g.W.Γ q.function (at + 1 + size bin_w.a) bin_w.b (right_hint (asTy g.W.text a.typ) (sub_hint (class_as c) (asHint g.W.text h)))) (at + 1 + size bin_w.a + size bin_w.b) (max (127 - g.d) (max a.typ.levels (hint_levels x))) l₁ (Some b) l₂
+            bin_2 = said bin_below.1 bin_w.b_at bin_1.next bin_hint db
 
-            pub bin_second : Given ks ws sc pk pw a.next y
-            bin_second = part bin_below.1 bin_w.b_at (bin_1.next f) bin_hint₂ (omega arith)
+            pub bin_end : b.next ≡ at + size g.e
+            unfolding size
+            bin_end = rw bin_w.is (omega (arith, bin_2.next))
 
-            module _ {o₂ : List ℕ} {b : Inferred} (db : Inferring ks ws sc pk pw a.next y q o₁ a.n b o₂) where
-              bin_2 : Done g.W.number g.W.text q (infer g.W.Γ q.function (at + 1 + size bin_w.a) bin_w.b (right_hint (asTy g.W.text a.typ) (sub_hint bin_class (asHint g.W.text h)))) (at + 1 + size bin_w.a + size bin_w.b) (max (127 - g.d) 127) o₁ a.n b o₂
-              bin_2 = said bin_below.1 bin_w.b_at (bin_1.next f) bin_hint₂ (omega arith) db
-
-              pub bin_stop₂ : b.ok ≡ false → Whole g q o n b o₂
-              unfolding infer binary_rule
-              bin_stop₂ f₂ = rw bin_w.is (go _ f bin_1 (stop _ f₂ bin_2))
-
-              pub bin_done : b.ok ≡ true → {o₃ : List ℕ} {r : Inferred}
-                  → ((k : OpClass) → rank k ≡ c → Ruled ks ws sc q (λ W. operands W.Γ at k (asTy W.text a.typ) (asTy W.text b.typ)) b.next a.typ.levels o₂ b.n r o₃)
-                  → Whole g q o n r o₃
-              unfolding infer binary_rule size
-              bin_done f₂ d = rw bin_w.is (go _ f bin_1 (go _ f₂ bin_2 (at_end (omega (arith, bin_2.next f₂)) (lower (omega (arith, bin_1.low f)) (d bin_class bin_rank g.W)))))
+            pub bin_done : {l₃ : Lines} {r : code.Option Typ} → Ruled ctx q (λ W. operands W.Γ at (class_as c) (asTy W.text a.typ) (asTy W.text b.typ)) a.typ.levels l₂ r l₃ → Ends g q l r l₃
+            unfolding infer binary_rule
+            bin_done d = rw (bin_w.is, ← bin_class) (go _ bin_1 (go _ bin_2 (weaker (omega (arith, bin_1.low)) (d g.W))))
 
   -- ---- a choice
 
-  module _ (k : get_or pk at 0 ≡ 67) where
+  module _ (k : kind_at side at ≡ 67) where
     ite_w : ThreeParts src ite g.e at
     ite_w = ite_here src g.e at g.stands k
 
@@ -409,39 +390,43 @@ module _ {ks ws sc pk pw : List ℕ} {at : ℕ} {h : Hint} (g : Given ks ws sc p
         let c = rw ite_w.is at g.casts in
         (record { deep = omega arith; casts = c.0 }, record { deep = omega arith; casts = c.1 }, record { deep = omega arith; casts = c.2 })
 
-    module _ {x : Hint} (fx : (ρ : Naming) → HintIs ρ (some (basic 20)) 0 x) where
-      pub ite_first : Given ks ws sc pk pw (at + 1) x
-      ite_first = part ite_below.0 ite_w.c_at refl (fx g.W.text) (omega arith)
+    module _ {x : Typ} (fx : Bottom 20 0 x) where
+      ite_hint : HintIs g.W.text (some (basic 20)) 0 (Some x)
+      ite_hint = hint_basic g.W.text fx (omega arith)
 
-      module _ {q : Spot} {o o₁ : List ℕ} {n : ℕ} {c : Inferred} (dc : Inferring ks ws sc pk pw (at + 1) x q o n c o₁) where
-        ite_1 : Done g.W.number g.W.text q (infer g.W.Γ q.function (at + 1) ite_w.c (some (basic 20))) (at + 1 + size ite_w.c) (max (127 - g.d) 0) o n c o₁
-        ite_1 = said ite_below.0 ite_w.c_at refl (fx g.W.text) (omega arith) dc
+      pub ite_first : Given ctx side (at + 1) (Some x)
+      ite_first = part ite_below.0 ite_w.c_at refl ite_hint
 
-        pub ite_stop : c.ok ≡ false → Whole g q o n c o₁
-        unfolding infer if_rule
-        ite_stop f = rw ite_w.is (stop _ f ite_1)
+      pub ite_stop : {q : Spot} {l l₁ : Lines} → Inferring ctx side (at + 1) (Some x) q l None l₁ → Whole g q l None l₁
+      unfolding infer if_rule
+      ite_stop d = rw ite_w.is (closed_none (stop _ (said ite_below.0 ite_w.c_at refl ite_hint d)))
 
-        module _ (f : c.ok ≡ true) where
-          pub ite_next : at + 1 < c.next
-          ite_next = omega (arith, ite_1.next f, size_pos ite_w.c)
+      module _ {q : Spot} {l l₁ : Lines} {c : answer.Typed} (dc : Inferring ctx side (at + 1) (Some x) q l (Some c) l₁) where
+        ite_1 : Done g.W.number g.W.text q (infer g.W.Γ q.function (at + 1) ite_w.c (some (basic 20))) (at + 1 + size ite_w.c) (max (127 - g.d) 0) l (Some c) l₁
+        ite_1 = said ite_below.0 ite_w.c_at refl ite_hint dc
 
-          pub ite_pair : GivenBoth ks ws sc pk pw c.next h
-          ite_pair = pair ite_below.1 ite_below.2 ite_w.a_at ite_w.b_at (ite_1.next f)
+        pub ite_next : at + 1 < c.next
+        ite_next = omega (arith, ite_1.next, size_pos ite_w.c)
 
-          module _ {t : Bool} (ft : (W : World ks ws sc) → t ≡ is_bool (res W.Γ (asTy W.text c.typ))) where
-            pub ite_fail : t ≡ false → {o₂ : List ℕ} {r : Inferred} → Failed q 90 at no_value o₁ c.n r o₂ → Whole g q o n r o₂
-            unfolding infer if_rule
-            ite_fail b d = rw ite_w.is (go _ f ite_1 (refused _ (sym (ft g.W) ∙ b) d))
+        pub ite_pair : GivenBoth ctx side c.next h
+        ite_pair = pair ite_below.1 ite_below.2 ite_w.a_at ite_w.b_at ite_1.next
 
-            pub ite_done : t ≡ true → {o₂ : List ℕ} {r : Inferred} → DoneBoth ks ws sc pk pw c.next at 91 h q o₁ c.n r o₂ → Whole g q o n r o₂
-            unfolding infer if_rule size
-            ite_done b d =
-                rw ite_w.is
-                (go _ f ite_1 (passed _ (sym (ft g.W) ∙ b) (at_end (omega arith) (said_both ite_below.1 ite_below.2 ite_w.a_at ite_w.b_at (ite_1.next f) at 91 d))))
+        module _ {t : Bool} (ft : (W : WorldOf ctx) → t ≡ is_bool (res W.Γ (asTy W.text c.typ))) where
+          pub ite_fail : t ≡ false → {l₂ : Lines} {r : code.Option answer.Typed} → Failed q 90 at no_value l₁ r l₂ → Whole g q l r l₂
+          unfolding infer if_rule
+          ite_fail b d = rw (d.none, ite_w.is) (closed_none (go _ ite_1 (refused _ (sym (ft g.W) ∙ b) (record { none = refl; put = d.put }))))
+
+          pub ite_done : t ≡ true → {l₂ : Lines} {r : code.Option answer.Typed} → DoneBoth ctx side c.next at 91 h q l₁ r l₂ → Whole g q l r l₂
+          unfolding infer if_rule size
+          ite_done b d =
+              rw ite_w.is
+              (onward _ ite_1.said
+              (onward_then (said_pass _ (sym (ft g.W) ∙ b))
+              (at_end (omega arith) (said_both ite_below.1 ite_below.2 ite_w.a_at ite_w.b_at ite_1.next at 91 d))))
 
   -- ---- pre and arrow
 
-  module _ (k : get_or pk at 0 ≡ 68) where
+  module _ (k : kind_at side at ≡ 68) where
     pre_w : OnePart src pre g.e at
     pre_w = pre_here src g.e at g.stands k
 
@@ -449,14 +434,14 @@ module _ {ks ws sc pk pw : List ℕ} {at : ℕ} {h : Hint} (g : Given ks ws sc p
     unfolding depth ShallowCasts
     pre_below = record { deep = let z = rw pre_w.is at g.deep in omega arith; casts = rw pre_w.is at g.casts }
 
-    pub pre_given : Given ks ws sc pk pw (at + 1) h
-    pre_given = part pre_below pre_w.a_at refl own g.low
+    pub pre_given : Given ctx side (at + 1) h
+    pre_given = part pre_below pre_w.a_at refl own
 
-    pub pre_done : {q : Spot} {o o₁ : List ℕ} {n : ℕ} {r : Inferred} → Inferring ks ws sc pk pw (at + 1) h q o n r o₁ → Whole g q o n r o₁
+    pub pre_done : {q : Spot} {l l₁ : Lines} {r : code.Option answer.Typed} → Inferring ctx side (at + 1) h q l r l₁ → Whole g q l r l₁
     unfolding infer size
-    pre_done d = rw pre_w.is (at_end (omega arith) (lower (omega arith) (said pre_below pre_w.a_at refl own g.low d)))
+    pre_done d = rw pre_w.is (at_end (omega arith) (lower (omega arith) (said pre_below pre_w.a_at refl own d)))
 
-  module _ (k : get_or pk at 0 ≡ 69) where
+  module _ (k : kind_at side at ≡ 69) where
     arrow_w : TwoParts src arrow g.e at
     arrow_w = arrow_here src g.e at g.stands k
 
@@ -467,39 +452,39 @@ module _ {ks ws sc pk pw : List ℕ} {at : ℕ} {h : Hint} (g : Given ks ws sc p
         let c = rw arrow_w.is at g.casts in
         (record { deep = omega arith; casts = c.0 }, record { deep = omega arith; casts = c.1 })
 
-    pub arrow_pair : GivenBoth ks ws sc pk pw (at + 1) h
+    pub arrow_pair : GivenBoth ctx side (at + 1) h
     arrow_pair = pair arrow_below.0 arrow_below.1 arrow_w.a_at arrow_w.b_at refl
 
-    pub arrow_done : {q : Spot} {o o₁ : List ℕ} {n : ℕ} {r : Inferred} → DoneBoth ks ws sc pk pw (at + 1) at 92 h q o n r o₁ → Whole g q o n r o₁
+    pub arrow_done : {q : Spot} {l l₁ : Lines} {r : code.Option answer.Typed} → DoneBoth ctx side (at + 1) at 92 h q l r l₁ → Whole g q l r l₁
     unfolding infer size
     arrow_done d = rw arrow_w.is (at_end (omega arith) (said_both arrow_below.0 arrow_below.1 arrow_w.a_at arrow_w.b_at refl at 92 d))
 
   -- ---- clocks
 
-  module _ (k : Kind when_kind pk at) where
+  module _ (k : Kind when_kind side at) where
     when_w : WithName src at (λ c. OnePart src (when k.which c) g.e at)
     when_w = when_here src g.e at g.stands k.which k.is
 
-    pub when_small : get_or pw at 0 < 512
+    pub when_small : word_at side at < 512
     when_small = when_w.name.small
 
     when_below : Below when_w.holds.a
     unfolding depth ShallowCasts
     when_below = record { deep = let z = rw when_w.holds.is at g.deep in omega arith; casts = rw when_w.holds.is at g.casts }
 
-    pub when_given : Given ks ws sc pk pw (at + 1) h
-    when_given = part when_below when_w.holds.a_at refl own g.low
+    pub when_given : Given ctx side (at + 1) h
+    when_given = part when_below when_w.holds.a_at refl own
 
-    pub when_done : {q : Spot} {o o₁ o₂ : List ℕ} {n m : ℕ} {r : Inferred} → ((W : World ks ws sc) → Noted W.number q (clock W.Γ at (W.text (get_or pw at 0))) o n m o₁)
-        → Inferring ks ws sc pk pw (at + 1) h q o₁ m r o₂ → Whole g q o n r o₂
+    pub when_done : {q : Spot} {l l₁ l₂ : Lines} {r : code.Option answer.Typed} → ((W : WorldOf ctx) → Noted W.number q (clock W.Γ at (W.text (word_at side at))) l l₁)
+        → Inferring ctx side (at + 1) h q l₁ r l₂ → Whole g q l r l₂
     unfolding infer size when_rule
-    when_done f d = rw when_w.holds.is (after (said_add refl (rw when_w.name.text at (f g.W))) (at_end (omega arith) (lower (omega arith) (said when_below when_w.holds.a_at refl own g.low d))))
+    when_done f d = rw when_w.holds.is (onward_then (said_add refl (rw when_w.name.text at (f g.W))) (at_end (omega arith) (lower (omega arith) (said when_below when_w.holds.a_at refl own d))))
 
-  module _ (k : get_or pk at 0 ≡ 79) where
+  module _ (k : kind_at side at ≡ 79) where
     merge_w : WithName src at (λ c. TwoParts src (merge c) g.e at)
     merge_w = merge_here src g.e at g.stands k
 
-    pub merge_small : get_or pw at 0 < 512
+    pub merge_small : word_at side at < 512
     merge_small = merge_w.name.small
 
     merge_below : Below merge_w.holds.a × Below merge_w.holds.b
@@ -509,17 +494,17 @@ module _ {ks ws sc pk pw : List ℕ} {at : ℕ} {h : Hint} (g : Given ks ws sc p
         let c = rw merge_w.holds.is at g.casts in
         (record { deep = omega arith; casts = c.0 }, record { deep = omega arith; casts = c.1 })
 
-    pub merge_pair : GivenBoth ks ws sc pk pw (at + 1) h
+    pub merge_pair : GivenBoth ctx side (at + 1) h
     merge_pair = pair merge_below.0 merge_below.1 merge_w.holds.a_at merge_w.holds.b_at refl
 
-    pub merge_done : {q : Spot} {o o₁ o₂ : List ℕ} {n m : ℕ} {r : Inferred} → ((W : World ks ws sc) → Noted W.number q (clock W.Γ at (W.text (get_or pw at 0))) o n m o₁)
-        → DoneBoth ks ws sc pk pw (at + 1) at 131 h q o₁ m r o₂ → Whole g q o n r o₂
+    pub merge_done : {q : Spot} {l l₁ l₂ : Lines} {r : code.Option answer.Typed} → ((W : WorldOf ctx) → Noted W.number q (clock W.Γ at (W.text (word_at side at))) l l₁)
+        → DoneBoth ctx side (at + 1) at 131 h q l₁ r l₂ → Whole g q l r l₂
     unfolding infer size merge_rule
-    merge_done f d = rw merge_w.holds.is (after (said_add refl (rw merge_w.name.text at (f g.W))) (at_end (omega arith) (said_both merge_below.0 merge_below.1 merge_w.holds.a_at merge_w.holds.b_at refl at 131 d)))
+    merge_done f d = rw merge_w.holds.is (onward_then (said_add refl (rw merge_w.name.text at (f g.W))) (at_end (omega arith) (said_both merge_below.0 merge_below.1 merge_w.holds.a_at merge_w.holds.b_at refl at 131 d)))
 
   -- ---- a field
 
-  module _ (k : get_or pk at 0 ≡ 71) where
+  module _ (k : kind_at side at ≡ 71) where
     field_w : WithName src at (λ x. OnePart src (field x) g.e at)
     field_w = field_here src g.e at g.stands k
 
@@ -527,29 +512,31 @@ module _ {ks ws sc pk pw : List ℕ} {at : ℕ} {h : Hint} (g : Given ks ws sc p
     unfolding depth ShallowCasts
     field_below = record { deep = let z = rw field_w.holds.is at g.deep in omega arith; casts = rw field_w.holds.is at g.casts }
 
-    module _ {x : Hint} (fx : (ρ : Naming) → HintIs ρ none 0 x) where
-      pub field_given : Given ks ws sc pk pw (at + 1) x
-      field_given = part field_below field_w.holds.a_at refl (fx g.W.text) (omega arith)
+    pub field_given : Given ctx side (at + 1) None
+    field_given = part field_below field_w.holds.a_at refl (hint_none g.W.text)
 
-      module _ {q : Spot} {o o₁ : List ℕ} {n : ℕ} {a : Inferred} (da : Inferring ks ws sc pk pw (at + 1) x q o n a o₁) where
-        field_1 : Done g.W.number g.W.text q (infer g.W.Γ q.function (at + 1) field_w.holds.a none) (at + 1 + size field_w.holds.a) (max (127 - g.d) 0) o n a o₁
-        field_1 = said field_below field_w.holds.a_at refl (fx g.W.text) (omega arith) da
+    pub field_stop : {q : Spot} {l l₁ : Lines} → Inferring ctx side (at + 1) None q l None l₁ → Whole g q l None l₁
+    unfolding infer field_rule
+    field_stop d = rw field_w.holds.is (closed_none (stop _ (said field_below field_w.holds.a_at refl (hint_none g.W.text) d)))
 
-        pub field_known : a.ok ≡ true → Known a.typ
-        field_known f = field_1.known f
+    module _ {q : Spot} {l l₁ : Lines} {a : answer.Typed} (da : Inferring ctx side (at + 1) None q l (Some a) l₁) where
+      field_1 : Done g.W.number g.W.text q (infer g.W.Γ q.function (at + 1) field_w.holds.a none) (at + 1 + size field_w.holds.a) (max (127 - g.d) 0) l (Some a) l₁
+      field_1 = said field_below field_w.holds.a_at refl (hint_none g.W.text) da
 
-        pub field_stop : a.ok ≡ false → Whole g q o n a o₁
-        unfolding infer field_rule
-        field_stop f = rw field_w.holds.is (stop _ f field_1)
+      pub field_known : Known a.typ
+      field_known = field_1.known
 
-        pub field_done : a.ok ≡ true → {o₂ : List ℕ} {r : Inferred}
-            → Ruled ks ws sc q (λ W. field_of W.Γ at (W.text (get_or pw at 0)) (res W.Γ (asTy W.text a.typ))) a.next 67 o₁ a.n r o₂ → Whole g q o n r o₂
-        unfolding infer field_rule size
-        field_done f d = rw field_w.holds.is (go _ f field_1 (at_end (omega (arith, field_1.next f)) (lower (omega (arith, level)) (rw field_w.name.text at (d g.W)))))
+      pub field_next : a.next ≡ at + size g.e
+      unfolding size
+      field_next = rw field_w.holds.is (omega (arith, field_1.next))
+
+      pub field_done : {l₂ : Lines} {r : code.Option Typ} → Ruled ctx q (λ W. field_of W.Γ at (W.text (word_at side at)) (res W.Γ (asTy W.text a.typ))) 67 l₁ r l₂ → Ends g q l r l₂
+      unfolding infer field_rule
+      field_done d = rw field_w.holds.is (go _ field_1 (weaker (omega (arith, g.deep)) (rw field_w.name.text at (d g.W))))
 
   -- ---- an index
 
-  module _ (k : get_or pk at 0 ≡ 72) where
+  module _ (k : kind_at side at ≡ 72) where
     index_w : TwoParts src index g.e at
     index_w = index_here src g.e at g.stands k
 
@@ -560,45 +547,49 @@ module _ {ks ws sc pk pw : List ℕ} {at : ℕ} {h : Hint} (g : Given ks ws sc p
         let c = rw index_w.is at g.casts in
         (record { deep = omega arith; casts = c.0 }, record { deep = omega arith; casts = c.1 })
 
-    module _ {x : Hint} (fx : (ρ : Naming) → HintIs ρ none 0 x) where
-      pub index_first : Given ks ws sc pk pw (at + 1) x
-      index_first = part index_below.0 index_w.a_at refl (fx g.W.text) (omega arith)
+    pub index_first : Given ctx side (at + 1) None
+    index_first = part index_below.0 index_w.a_at refl (hint_none g.W.text)
 
-      module _ {q : Spot} {o o₁ : List ℕ} {n : ℕ} {a : Inferred} (da : Inferring ks ws sc pk pw (at + 1) x q o n a o₁) where
-        index_1 : Done g.W.number g.W.text q (infer g.W.Γ q.function (at + 1) index_w.a none) (at + 1 + size index_w.a) (max (127 - g.d) 0) o n a o₁
-        index_1 = said index_below.0 index_w.a_at refl (fx g.W.text) (omega arith) da
+    pub index_stop : {q : Spot} {l l₁ : Lines} → Inferring ctx side (at + 1) None q l None l₁ → Whole g q l None l₁
+    unfolding infer index_rule
+    index_stop d = rw index_w.is (closed_none (stop _ (said index_below.0 index_w.a_at refl (hint_none g.W.text) d)))
 
-        pub index_stop : a.ok ≡ false → Whole g q o n a o₁
+    module _ {q : Spot} {l l₁ : Lines} {a : answer.Typed} (da : Inferring ctx side (at + 1) None q l (Some a) l₁) where
+      index_1 : Done g.W.number g.W.text q (infer g.W.Γ q.function (at + 1) index_w.a none) (at + 1 + size index_w.a) (max (127 - g.d) 0) l (Some a) l₁
+      index_1 = said index_below.0 index_w.a_at refl (hint_none g.W.text) da
+
+      pub index_known : Known a.typ
+      index_known = index_1.known
+
+      pub index_next : at + 1 < a.next
+      index_next = omega (arith, index_1.next, size_pos index_w.a)
+
+      module _ {x : Typ} (fx : Bottom 23 0 x) where
+        index_hint : HintIs g.W.text (some (basic 23)) 0 (Some x)
+        index_hint = hint_basic g.W.text fx (omega arith)
+
+        pub index_second : Given ctx side a.next (Some x)
+        index_second = part index_below.1 index_w.b_at index_1.next index_hint
+
+        pub index_stop₂ : {l₂ : Lines} → Inferring ctx side a.next (Some x) q l₁ None l₂ → Whole g q l None l₂
         unfolding infer index_rule
-        index_stop f = rw index_w.is (stop _ f index_1)
+        index_stop₂ d = rw index_w.is (closed_none (go _ index_1 (stop _ (said index_below.1 index_w.b_at index_1.next index_hint d))))
 
-        module _ (f : a.ok ≡ true) where
-          pub index_known : Known a.typ
-          index_known = index_1.known f
+        module _ {l₂ : Lines} {b : answer.Typed} (db : Inferring ctx side a.next (Some x) q l₁ (Some b) l₂) where
+          index_2 : Done g.W.number g.W.text q (infer g.W.Γ q.function (at + 1 + size index_w.a) index_w.b (some (basic 23))) (at + 1 + size index_w.a + size index_w.b) (max (127 - g.d) 0) l₁ (Some b) l₂
+          index_2 = said index_below.1 index_w.b_at index_1.next index_hint db
 
-          pub index_next : at + 1 < a.next
-          index_next = omega (arith, index_1.next f, size_pos index_w.a)
+          pub index_end : b.next ≡ at + size g.e
+          unfolding size
+          index_end = rw index_w.is (omega (arith, index_2.next))
 
-          module _ {y : Hint} (fy : (ρ : Naming) → HintIs ρ (some (basic 23)) 0 y) where
-            pub index_second : Given ks ws sc pk pw a.next y
-            index_second = part index_below.1 index_w.b_at (index_1.next f) (fy g.W.text) (omega arith)
-
-            module _ {o₂ : List ℕ} {b : Inferred} (db : Inferring ks ws sc pk pw a.next y q o₁ a.n b o₂) where
-              index_2 : Done g.W.number g.W.text q (infer g.W.Γ q.function (at + 1 + size index_w.a) index_w.b (some (basic 23))) (at + 1 + size index_w.a + size index_w.b) (max (127 - g.d) 0) o₁ a.n b o₂
-              index_2 = said index_below.1 index_w.b_at (index_1.next f) (fy g.W.text) (omega arith) db
-
-              pub index_stop₂ : b.ok ≡ false → Whole g q o n b o₂
-              unfolding infer index_rule
-              index_stop₂ f₂ = rw index_w.is (go _ f index_1 (stop _ f₂ index_2))
-
-              pub index_done : b.ok ≡ true → {o₃ : List ℕ} {r : Inferred}
-                  → Ruled ks ws sc q (λ W. index_of W.Γ at (asTy W.text a.typ) (asTy W.text b.typ)) b.next (max 63 (a.typ.levels - 1)) o₂ b.n r o₃ → Whole g q o n r o₃
-              unfolding infer index_rule size
-              index_done f₂ d = rw index_w.is (go _ f index_1 (go _ f₂ index_2 (at_end (omega (arith, index_2.next f₂)) (lower (omega (arith, index_1.low f, level)) (d g.W)))))
+          pub index_done : {l₃ : Lines} {r : code.Option Typ} → Ruled ctx q (λ W. index_of W.Γ at (asTy W.text a.typ) (asTy W.text b.typ)) (max 63 (a.typ.levels - 1)) l₂ r l₃ → Ends g q l r l₃
+          unfolding infer index_rule
+          index_done d = rw index_w.is (go _ index_1 (go _ index_2 (weaker (omega (arith, index_1.low, g.deep)) (d g.W))))
 
   -- ---- a cast
 
-  module _ (k : get_or pk at 0 ≡ 76) where
+  module _ (k : kind_at side at ≡ 76) where
     cast_w : Cast src g.e at
     cast_w = cast_here src g.e at g.stands k
 
@@ -613,85 +604,90 @@ module _ {ks ws sc pk pw : List ℕ} {at : ℕ} {h : Hint} (g : Given ks ws sc p
     cast_typed = let c = rw cast_w.is at g.casts in record { stands = cast_w.t_at; few = c.0 }
 
     -- what `read_type` asks
-    pub cast_there : IsTypeAt pk pw (at + 1)
+    pub cast_there : IsTypeAt side.kinds.now side.words.now (at + 1)
     cast_there = type_there cast_typed
 
-    module _ {to : Typ} {mid : ℕ} (d : Read pk pw (at + 1) to mid) {x : Hint} (fx : (ρ : Naming) → HintIs ρ none 0 x) where
+    module _ {to : Typ} {mid : ℕ} (d : Read side.kinds.now side.words.now (at + 1) to mid) where
       cast_mid : mid ≡ at + 1 + levels cast_w.t
       cast_mid = read_next cast_typed d
 
       pub cast_next : at < mid
       cast_next = omega (arith, cast_mid)
 
-      pub cast_given : Given ks ws sc pk pw mid x
-      cast_given = part cast_below cast_w.a_at cast_mid (fx g.W.text) (omega arith)
+      pub cast_given : Given ctx side mid None
+      cast_given = part cast_below cast_w.a_at cast_mid (hint_none g.W.text)
 
-      module _ {q : Spot} {o o₁ : List ℕ} {n : ℕ} {a : Inferred} (da : Inferring ks ws sc pk pw mid x q o n a o₁) where
-        cast_1 : Done g.W.number g.W.text q (infer g.W.Γ q.function (at + 1 + levels cast_w.t) cast_w.a none) (at + 1 + levels cast_w.t + size cast_w.a) (max (127 - g.d) 0) o n a o₁
-        cast_1 = said cast_below cast_w.a_at cast_mid (fx g.W.text) (omega arith) da
+      pub cast_stop : {q : Spot} {l l₁ : Lines} → Inferring ctx side mid None q l None l₁ → Whole g q l None l₁
+      unfolding infer cast_rule
+      cast_stop f = rw cast_w.is (closed_none (stop _ (said cast_below cast_w.a_at cast_mid (hint_none g.W.text) f)))
 
-        pub cast_stop : a.ok ≡ false → Whole g q o n a o₁
+      module _ {q : Spot} {l l₁ : Lines} {a : answer.Typed} (da : Inferring ctx side mid None q l (Some a) l₁) where
+        cast_1 : Done g.W.number g.W.text q (infer g.W.Γ q.function (at + 1 + levels cast_w.t) cast_w.a none) (at + 1 + levels cast_w.t + size cast_w.a) (max (127 - g.d) 0) l (Some a) l₁
+        cast_1 = said cast_below cast_w.a_at cast_mid (hint_none g.W.text) da
+
+        pub cast_end : a.next ≡ at + size g.e
+        unfolding size
+        cast_end = rw cast_w.is (omega (arith, cast_1.next))
+
+        pub cast_done : {l₂ : Lines} {r : code.Option Typ} → Ruled ctx q (λ W. cast_of W.Γ at (asTy W.text to) (asTy W.text a.typ)) to.levels l₁ r l₂ → Ends g q l r l₂
         unfolding infer cast_rule
-        cast_stop f = rw cast_w.is (stop _ f cast_1)
-
-        pub cast_done : a.ok ≡ true → {o₂ : List ℕ} {r : Inferred}
-            → Ruled ks ws sc q (λ W. cast_of W.Γ at (asTy W.text to) (asTy W.text a.typ)) a.next to.levels o₁ a.n r o₂ → Whole g q o n r o₂
-        unfolding infer cast_rule size
-        cast_done f c = rw cast_w.is (go _ f cast_1 (at_end (omega (arith, cast_1.next f)) (lower (omega (arith, level, d.few)) (rw (read_is cast_typed d).is at (c g.W)))))
+        cast_done c = rw cast_w.is (go _ cast_1 (weaker (omega (arith, g.deep, d.few)) (rw (read_is cast_typed d).is at (c g.W))))
 
 -- ---- two parts that must agree
 
-module _ {ks ws sc pk pw : List ℕ} {at : ℕ} {h : Hint} (g : GivenBoth ks ws sc pk pw at h) where
-  abbrev pub both_first : Given ks ws sc pk pw at h
-  both_first = record { W = g.W; e = g.a; stands = g.a_at; d = g.d; top = g.top; deep = g.deep_a; casts = g.casts_a; low = g.low; known = g.known }
+module _ {ctx : Context} {side : Records} {at : ℕ} {h : code.Option Typ} (g : GivenBoth ctx side at h) where
+  abbrev pub both_first : Given ctx side at h
+  both_first = record { W = g.W; e = g.a; stands = g.a_at; d = g.d; top = g.top; deep = g.deep_a; casts = g.casts_a; known = g.known }
 
   -- what is to be shown
-  abbrev pub Pair : (step code : ℕ) (q : Spot) (o : List ℕ) (n : ℕ) (r : Inferred) (o' : List ℕ) → Type 0
-  Pair step code q o n r o' =
+  abbrev pub Pair : (step c : ℕ) (q : Spot) (l : Lines) (r : code.Option answer.Typed) (l' : Lines) → Type 0
+  Pair step c q l r l' =
       Done g.W.number g.W.text q
-      (both g.W.Γ step code (infer g.W.Γ q.function at g.a) (infer g.W.Γ q.function (at + size g.a) g.b) (asHint g.W.text h))
-      (at + size g.a + size g.b) (max (128 - g.d) h.typ.levels) o n r o'
+      (both g.W.Γ step c (infer g.W.Γ q.function at g.a) (infer g.W.Γ q.function (at + size g.a) g.b) (asHint g.W.text h))
+      (at + size g.a + size g.b) (max (128 - g.d) (hint_levels h)) l r l'
 
-  module _ {q : Spot} {o o₁ : List ℕ} {n : ℕ} {a : Inferred} (da : Inferring ks ws sc pk pw at h q o n a o₁) where
-    pub both_stop : (step code : ℕ) → a.ok ≡ false → Pair step code q o n a o₁
+  pub both_stop : (step c : ℕ) {q : Spot} {l l₁ : Lines} → Inferring ctx side at h q l None l₁ → Pair step c q l None l₁
+  unfolding both
+  both_stop step c d = closed_none (stop _ (d both_first))
+
+  module _ {q : Spot} {l l₁ : Lines} {a : answer.Typed} (da : Inferring ctx side at h q l (Some a) l₁) where
+    pub both_1 : Done g.W.number g.W.text q (infer g.W.Γ q.function at g.a (asHint g.W.text h)) (at + size g.a) (max (128 - g.d) (hint_levels h)) l (Some a) l₁
+    both_1 = da both_first
+
+    pub both_known : Known a.typ
+    both_known = both_1.known
+
+    pub both_next : at < a.next
+    both_next = omega (arith, both_1.next, size_pos g.a)
+
+    -- the hint of the second part
+    abbrev then_hint : code.Option Typ
+    then_hint = option_or h (Some a.typ)
+
+    pub both_hint : HintIs g.W.text (or_else (asHint g.W.text h) (asTy g.W.text a.typ)) (max a.typ.levels (hint_levels h)) then_hint
+    both_hint = second_hint g.W.text a.typ h both_known g.known
+
+    abbrev pub both_second : Given ctx side a.next then_hint
+    both_second = record { W = g.W; e = g.b; stands = rw both_1.next g.b_at; d = g.d; top = g.top; deep = g.deep_b; casts = g.casts_b; known = both_hint.known }
+
+    module _ {l₂ : Lines} {r : code.Option answer.Typed} (db : Inferring ctx side a.next then_hint q l₁ r l₂) where
+      both_2 : Done g.W.number g.W.text q (infer g.W.Γ q.function (at + size g.a) g.b (or_else (asHint g.W.text h) (asTy g.W.text a.typ))) (at + size g.a + size g.b) (max (128 - g.d) (hint_levels then_hint)) l₁ r l₂
+      both_2 =
+          rw both_hint.is at
+          (subst (λ (j : ℕ). Done g.W.number g.W.text q (infer g.W.Γ q.function j g.b (asHint g.W.text then_hint)) (j + size g.b) (max (128 - g.d) (hint_levels then_hint)) l₁ r l₂) both_1.next (db both_second))
+
+    pub both_stop₂ : (step c : ℕ) {l₂ : Lines} → Inferring ctx side a.next then_hint q l₁ None l₂ → Pair step c q l None l₂
     unfolding both
-    both_stop step code f = stop _ f (da both_first)
+    both_stop₂ step c d = closed_none (go _ both_1 (stop _ (both_2 d)))
 
-    module _ (f : a.ok ≡ true) where
-      pub both_known : Known a.typ
-      both_known = (da both_first).known f
+    module _ {l₂ : Lines} {b : answer.Typed} (db : Inferring ctx side a.next then_hint q l₁ (Some b) l₂) (step c : ℕ) {l₃ : Lines} where
+      both_agree : {r : code.Option Typ} → Ruled ctx q (λ W. agree_rule W.Γ step c (asTy W.text a.typ) (asTy W.text b.typ)) a.typ.levels l₂ r l₃
+          → Concludes g.W.number g.W.text q (both g.W.Γ step c (infer g.W.Γ q.function at g.a) (infer g.W.Γ q.function (at + size g.a) g.b) (asHint g.W.text h)) (max (128 - g.d) (hint_levels h)) l r l₃
+      unfolding both
+      both_agree d = go _ both_1 (go _ (both_2 db) (weaker both_1.low (d g.W)))
 
-      pub both_low : a.typ.levels ≤ 127
-      both_low = omega (arith, (da both_first).low f, g.low, g.top)
+      pub both_refused : Ruled ctx q (λ W. agree_rule W.Γ step c (asTy W.text a.typ) (asTy W.text b.typ)) a.typ.levels l₂ None l₃ → Pair step c q l None l₃
+      both_refused d = closed_none (both_agree d)
 
-      pub both_next : at < a.next
-      both_next = omega (arith, (da both_first).next f, size_pos g.a)
-
-      module _ {y : Hint} (fy : SecondHint a.typ h y) where
-        abbrev pub both_second : Given ks ws sc pk pw a.next y
-        both_second = record {
-          W = g.W;
-          e = g.b;
-          stands = rw ((da both_first).next f) g.b_at;
-          d = g.d;
-          top = g.top;
-          deep = g.deep_b;
-          casts = g.casts_b;
-          low = omega (arith, (fy.holds g.W.text).low, both_low, g.low);
-          known = (fy.holds g.W.text).known;
-        }
-
-        module _ {o₂ : List ℕ} {b : Inferred} (db : Inferring ks ws sc pk pw a.next y q o₁ a.n b o₂) where
-          both_2 : Done g.W.number g.W.text q (infer g.W.Γ q.function (at + size g.a) g.b (or_else (asHint g.W.text h) (asTy g.W.text a.typ))) (at + size g.a + size g.b) (max (128 - g.d) y.typ.levels) o₁ a.n b o₂
-          both_2 =
-              rw (fy.holds g.W.text).is at
-              (subst (λ (j : ℕ). Done g.W.number g.W.text q (infer g.W.Γ q.function j g.b (asHint g.W.text y)) (j + size g.b) (max (128 - g.d) y.typ.levels) o₁ a.n b o₂) ((da both_first).next f) (db both_second))
-
-          pub both_stop₂ : (step code : ℕ) → b.ok ≡ false → Pair step code q o n b o₂
-          unfolding both
-          both_stop₂ step code f₂ = go _ f (da both_first) (stop _ f₂ both_2)
-
-          pub both_done : (step code : ℕ) → b.ok ≡ true → {o₃ : List ℕ} {r : Inferred}
-              → Ruled ks ws sc q (λ W. agree_rule W.Γ step code (asTy W.text a.typ) (asTy W.text b.typ)) b.next a.typ.levels o₂ b.n r o₃ → Pair step code q o n r o₃
-          unfolding both
-          both_done step code f₂ d = go _ f (da both_first) (go _ f₂ both_2 (at_end (both_2.next f₂) (lower ((da both_first).low f) (d g.W))))
+      pub both_done : {t : Typ} → Ruled ctx q (λ W. agree_rule W.Γ step c (asTy W.text a.typ) (asTy W.text b.typ)) a.typ.levels l₂ (Some t) l₃ → Pair step c q l (Some (record { typ = t; next = b.next })) l₃
+      both_done d = closed (both_agree d) (both_2 db).next

@@ -4,5 +4,5 @@ pub mod Arguments
 pub mod ItemLaws
 pub mod ValueLaws
 pub mod ArrayLaws
-pub mod Iterators
 pub mod Sides
+pub mod Iterators

@@ -1,43 +1,91 @@
--- A type that inference answers, what is to be shown of an expression, and the first of several expressions.
+-- What is to be shown of an expression, hints, and the first of several expressions.
 -- Assumes nothing.
 use Prim.Native.Nat.{ℕ, suc, ◌+◌, ◌-◌, ◌≤◌, max}
 use native.Mathlib.Omega.{arith}
-use mathlib.Core.Path.{◌≡◌, refl, ap}
-use mathlib.Core.Bool.{Bool, true}
-use mathlib.Core.List.{List}
-use mathlib.Core.Option.{Option, some}
-use lib.ListN.{length}
+use mathlib.Core.Path.{◌≡◌, refl, ap, ◌∙◌}
+use mathlib.Core.Bool.{Bool}
+use mathlib.Core.Option.{Option, none, some}
+use lib.ListN.{length, get_or}
+use Rattle.std.specs.Prelude as code
+use Rattle.std.specs.Prelude.{Some, None}
 use Rattle.lustre.specs.Name.{Name}
-use Rattle.lustre.specs.Types.{Ty}
+use Rattle.lustre.specs.Types.{Ty, basic}
 use Rattle.lustre.specs.Expr.{Expr, Exprs, []ᵉ, ◌∷ᵉ◌, size, sizes}
-use Rattle.lustre.specs.Line.{Out}
+use Rattle.lustre.specs.Line.{Out, ◌>>=◌, ◌>>◌}
 use Rattle.lustre.specs.Grammar.{count}
-use Rattle.lustre.specs.Resolve.{Scope}
+use Rattle.lustre.specs.Resolve.{Scope, Aliases}
 use Rattle.lustre.specs.Infer.{infer, infers}
+use Rattle.lustre.specs.declared.Records.{Records}
 use Rattle.input.specs.Depths.{depth, depths, ShallowCasts, ShallowCastsEach}
 use Rattle.lines.specs.Lines.{Said}
+use Rattle.lines.specs.declared.Lines.{Lines}
 use Rattle.lines.specs.declared.Spot.{Spot}
-use Rattle.types.specs.Value.{Naming, asTy, Known}
-use Rattle.types.specs.Number.{asHint}
-use Rattle.types.specs.declared.Hint.{Hint}
-use Rattle.rules.specs.Post.{Given, Done}
-use Rattle.rules.specs.declared.Inferred.{Inferred}
-use Rattle.rules.proofs.Laws.{maybe_yes}
+use Rattle.lines.proofs.Laws.{said_go, said_then}
+use Rattle.types.specs.Value.{Naming, Bottom}
+use Rattle.types.specs.Number.{asHint, Hinted}
+use Rattle.types.specs.declared.Context.{Context}
+use Rattle.types.specs.declared.Typ.{Typ}
+use Rattle.types.proofs.Values.{bottom_basic}
+use Rattle.rules.specs.Post.{Given, Done, Concludes, HintIs, hint_levels}
+use Rattle.rules.specs.declared.Typed.{Typed}
 
-module _ {num : Name → ℕ} {ρ : Naming} {q : Spot} {s : Out Ty} {end high : ℕ} {o o' : List ℕ} {n : ℕ} {r : Inferred} where
-  -- a type is answered, and it is said
-  pub typed : r.ok ≡ true → r.typ.levels ≤ high → Known r.typ → r.next ≡ end → Said num q s (some (asTy ρ r.typ)) o n r.n o' → Done num ρ q s end high o n r o'
-  typed h l k e d = record { said = rw (maybe_yes ρ r.typ h) d; low = λ y. l; known = λ y. k; next = λ y. e }
+-- the word of the record at a place
+abbrev pub word_at : Records → ℕ → ℕ
+word_at side at = get_or side.words.now at 0
 
--- what is said from where nothing was said before
-pub said_from : {A : Type 0} {num : Name → ℕ} {q : Spot} {s : Out A} {v : Option A} {o o₁ o' : List ℕ} {n n₁ m : ℕ} → o₁ ≡ o → n₁ ≡ n → Said num q s v o₁ n₁ m o' → Said num q s v o n m o'
-said_from a b d = rw (a, b) at d
+-- what the functions on literals answer, in a context
+abbrev pub HintedOf : (ctx : Context) (h : code.Option Typ) (f : Aliases → Option Ty → Option Ty) (r : code.Option ℕ) → Type 0
+HintedOf ctx h f r = Hinted ctx.records.kinds.now ctx.records.words.now ctx.scope.now.entries h f r
 
 -- what is to be shown of an expression
-abbrev pub Whole : {ks ws sc pk pw : List ℕ} {at : ℕ} {h : Hint} (g : Given ks ws sc pk pw at h) (q : Spot) (o : List ℕ) (n : ℕ) (r : Inferred) (o' : List ℕ) → Type 0
-Whole {at = at} {h = h} g q o n r o' =
+abbrev pub Whole : {ctx : Context} {side : Records} {at : ℕ} {h : code.Option Typ} (g : Given ctx side at h) (q : Spot) (l : Lines) (r : code.Option Typed) (l' : Lines) → Type 0
+Whole {at = at} {h = h} g q l r l' =
     Done g.W.number g.W.text q (infer g.W.Γ q.function at g.e (asHint g.W.text h))
-    (at + size g.e) (max (128 - g.d) h.typ.levels) o n r o'
+    (at + size g.e) (max (128 - g.d) (hint_levels h)) l r l'
+
+-- and of the type that its rule gives
+abbrev pub Ends : {ctx : Context} {side : Records} {at : ℕ} {h : code.Option Typ} (g : Given ctx side at h) (q : Spot) (l : Lines) (r : code.Option Typ) (l' : Lines) → Type 0
+Ends {at = at} {h = h} g q l r l' =
+    Concludes g.W.number g.W.text q (infer g.W.Γ q.function at g.e (asHint g.W.text h)) (max (128 - g.d) (hint_levels h)) l r l'
+
+-- no type
+pub nothing : {num : Name → ℕ} {ρ : Naming} {q : Spot} {s : Out Ty} {end high : ℕ} {l l' : Lines} → Said num q s none l l' → Done num ρ q s end high l None l'
+nothing d = record { said = d; low = tt; known = tt; next = tt }
+
+-- what is said from where nothing was said before
+pub said_from : {A : Type 0} {num : Name → ℕ} {q : Spot} {s : Out A} {v : Option A} {l l₁ l' : Lines} → l₁ ≡ l → Said num q s v l₁ l' → Said num q s v l l'
+said_from e d = rw e at d
+
+-- something said before an expression that is typed last
+module _ {A : Type 0} {num : Name → ℕ} {ρ : Naming} {q : Spot} {s : Out A} {a : A} {end high : ℕ} {l l₁ l' : Lines} {r : code.Option Typed} where
+  pub onward : (k : A → Out Ty) → Said num q s (some a) l l₁ → Done num ρ q (k a) end high l₁ r l' → Done num ρ q (s >>= k) end high l r l'
+  onward k d f = record { said = said_go k a refl d f.said; low = f.low; known = f.known; next = f.next }
+
+  pub onward_then : {k : Out Ty} → Said num q s (some a) l l₁ → Done num ρ q k end high l₁ r l' → Done num ρ q (s >> k) end high l r l'
+  onward_then d f = record { said = said_then a refl d f.said; low = f.low; known = f.known; next = f.next }
+
+-- what an expression is given, whatever its hint
+pub unhinted : {ctx : Context} {side : Records} {at : ℕ} {h : code.Option Typ} → Given ctx side at h → Given ctx side at None
+unhinted g = record { W = g.W; e = g.e; stands = g.stands; d = g.d; top = g.top; deep = g.deep; casts = g.casts; known = tt }
+
+-- ---- hints
+
+-- a hint has at most 127 lengths
+pub hint_low : (h : code.Option Typ) → hint_levels h ≤ 127
+hint_low None = omega arith
+hint_low (Some t) = omega arith
+
+-- no hint
+pub hint_none : (ρ : Naming) → HintIs ρ none 0 None
+hint_none ρ = record { is = refl; low = omega arith; known = tt }
+
+-- a basic type as hint
+pub hint_basic : (ρ : Naming) {k n : ℕ} {t : Typ} → Bottom k n t → k ≤ 32 → HintIs ρ (some (basic k)) 0 (Some t)
+hint_basic ρ {k} {n} b h = record {
+  is = ap (λ (u : Ty). some u) (b.is ρ ∙ bottom_basic ρ k n (λ e. omega arith) (λ e. omega arith));
+  low = omega (arith, b.flat);
+  known = λ e. absurd (omega (arith, b.base));
+}
 
 -- ---- expressions one after another
 

@@ -1,132 +1,126 @@
--- Struct values, lib.rs 1134: one field value, the field values one after another with the marks of their names, and the struct.
+-- Struct values, lib.rs 1134: one field value, the field values one after another with the set of their names, and the struct.
 -- Assumes nothing.
 use Prim.Native.Nat.{ℕ, ◌+◌, ◌<◌, ◌≤◌}
 use native.Mathlib.Omega.{arith}
 use mathlib.Core.Path.{◌≡◌, refl, sym, ap, ◌∙◌}
-use mathlib.Core.Bool.{true, false}
 use mathlib.Core.List.{List, [], ◌∷◌, ◌++◌, map, append-nil, append_assoc}
-use mathlib.Core.Option.{Option, none, some}
-use lib.ListN.{get_or}
+use mathlib.Core.Option.{none, some}
+use Rattle.std.specs.Prelude as code
+use Rattle.std.specs.Prelude.{Some, None}
 use Rattle.lustre.specs.Name.{Name, find}
-use Rattle.lustre.specs.Types.{Ty, Named}
+use Rattle.lustre.specs.Types.{Ty}
 use Rattle.lustre.specs.Expr.{Expr, Inits, init, struct, size, sizesⁱ}
 use Rattle.lustre.specs.Line.{named, try}
 use Rattle.lustre.specs.Grammar.{countⁱ}
-use Rattle.lustre.specs.Infer.{infer, infersⁱ, if_found, unless_agrees, value, values, missing, struct_name, struct_of, struct_rule}
+use Rattle.lustre.specs.Infer.{infer, infersⁱ, unless_agrees, value, values, missing, struct_name}
+use Rattle.lustre.specs.declared.Records.{Records}
 use Rattle.input.specs.Depths.{depth, depthsⁱ, ShallowCasts, ShallowCastsEachⁱ}
-use Rattle.standing.specs.Standing.{source, RecAt, InitsAt}
+use Rattle.standing.specs.Standing.{RecAt, InitsAt}
 use Rattle.standing.specs.Owed.{There}
 use Rattle.standing.proofs.Sizes.{FirstValue, first_value, no_values}
 use Rattle.standing.proofs.Inversions.{WithName, struct_here}
 use Rattle.standing.proofs.Inversions as inversions
 use Rattle.lines.specs.Lines.{Put, Noted, Said}
+use Rattle.lines.specs.declared.Lines.{Lines}
 use Rattle.lines.specs.declared.Spot.{Spot}
 use Rattle.lines.proofs.Laws.{noted_none, noted_named, said_return, said_add, said_try, said_go, said_then}
-use Rattle.types.specs.Value.{Naming, Injective, asTy, maybe, Bottom}
+use Rattle.types.specs.Value.{Injective, asTy, Bottom}
 use Rattle.types.specs.Number.{asHint}
 use Rattle.types.specs.Place.{Read}
+use Rattle.types.specs.declared.Context.{Context}
 use Rattle.types.specs.declared.Typ.{Typ}
-use Rattle.types.specs.declared.Hint.{Hint}
 use Rattle.types.proofs.Values.{bottom_name}
-use Rattle.rules.specs.World.{World, Typed, PortsHere}
-use Rattle.rules.specs.Post.{Given, Inferring, HintIs}
+use Rattle.rules.specs.World.{WorldOf, source_of, Typed, PortsOf}
+use Rattle.rules.specs.Post.{Given, Inferring, typed}
 use Rattle.rules.specs.Ports.{PortFound}
 use Rattle.rules.specs.Marks.{Marked}
 use Rattle.rules.specs.Structs.{Fields, Declared}
 use Rattle.rules.specs.Lists.{GivenValue, DoneValue, GivenValues, DoneValues}
-use Rattle.rules.specs.declared.Inferred.{Inferred}
-use Rattle.rules.specs.declared.Checked.{Checked}
-use Rattle.rules.specs.declared.Seen.{Seen}
+use Rattle.rules.specs.declared.Typed as answer
 use Rattle.rules.specs.declared.structs.ValuesLeft.{ValuesLeft}
-use Rattle.rules.proofs.Laws.{apart, maybe_no, maybe_yes, ended}
+use Rattle.rules.proofs.Laws.{apart, closed, weaker}
 use Rattle.rules.proofs.Places.{read_is}
-use Rattle.infer.proofs.Steps.{said_from, typed, Whole}
+use Rattle.rules.proofs.Onward as onward
+use Rattle.infer.specs.Post.{kind_at}
+use Rattle.infer.proofs.Steps.{word_at, nothing, Whole}
 
 -- ---- one field value
 
-module _ {ks ws sc pk pw : List ℕ} {at list : ℕ} (g : GivenValue ks ws sc pk pw at list) where
+module _ {ctx : Context} {side : Records} {at list : ℕ} (g : GivenValue ctx side at list) where
   -- the record behind the value is asked of this
-  abbrev pub value_there : There pk pw (at + 1)
+  abbrev pub value_there : There side.kinds.now side.words.now (at + 1)
   value_there = record { text = g.W.text; e = g.e; stands = g.stands }
 
   -- and the field of this
-  abbrev pub value_fields : PortsHere ks ws list
+  abbrev pub value_fields : PortsOf ctx.records list
   value_fields = record { text = g.W.text; ps = g.fs; listed = g.fields }
 
-  module _ {p : ℕ} (found : (x : PortsHere ks ws list) → Injective x.text → PortFound (source ks ws x.text) x.ps (x.text (get_or pw at 0)) p) where
-    pub value_port : PortFound (source ks ws g.W.text) g.fs g.x p
-    value_port = rw g.name.text at (found value_fields (apart g.W))
+  value_port : (r : code.Option ℕ) → ((x : PortsOf ctx.records list) → Injective x.text → PortFound (source_of ctx.records x.text) x.ps (x.text (word_at side at)) r)
+      → PortFound (source_of ctx.records g.W.text) g.fs g.x r
+  value_port r found = rw g.name.text at (found value_fields (apart g.W))
 
-    -- no such field: E0126, and the value is passed over
-    pub value_unknown : p ≡ 0 → {q : Spot} {step port next n m : ℕ} {o o₁ : List ℕ} → Put q 126 step (get_or pw at 0) o n m o₁ → ((t : There pk pw (at + 1)) → next ≡ at + 1 + size t.e)
-        → DoneValue ks ws sc pk pw at list step g q o n (record { next = next; port = port; n = m }) o₁
-    unfolding value
-    value_unknown z put skipped = record {
-      said = rw (value_port.absent z) (said_add refl (noted_named g.x (ap g.W.number (sym g.name.text) ∙ g.W.back (get_or pw at 0)) put));
-      next = skipped value_there;
-    }
+  -- no such field: E0126, and the value is passed over
+  pub value_unknown : ((x : PortsOf ctx.records list) → Injective x.text → PortFound (source_of ctx.records x.text) x.ps (x.text (word_at side at)) None)
+      → {q : Spot} {step next : ℕ} {l l₁ : Lines} → Put q 126 step (word_at side at) l l₁ → ((t : There side.kinds.now side.words.now (at + 1)) → next ≡ at + 1 + size t.e)
+      → DoneValue ctx side at list step g q l next l₁
+  unfolding value
+  value_unknown found put skipped = record {
+    said = rw (value_port None found) (said_add refl (noted_named g.x (ap g.W.number (sym g.name.text) ∙ g.W.back (word_at side at)) put));
+    next = skipped value_there;
+  }
 
-    module _ (nz : p ≡ 0 → ⊥) where
-      -- the field's type stands behind its record
-      pub value_type : Ty
-      value_type = (value_port.present nz).0
+  module _ (p : ℕ) (found : (x : PortsOf ctx.records list) → Injective x.text → PortFound (source_of ctx.records x.text) x.ps (x.text (word_at side at)) (Some p)) where
+    -- the field's type stands behind its record
+    pub value_type : Ty
+    value_type = (value_port (Some p) found).0
 
-      pub value_typed : Typed (source ks ws g.W.text) value_type (p + 1)
-      unfolding value_type
-      value_typed = (value_port.present nz).2
+    pub value_typed : Typed (source_of ctx.records g.W.text) value_type (p + 1)
+    unfolding value_type
+    value_typed = (value_port (Some p) found).2
 
-      value_found : find g.x g.fs ≡ some value_type
-      unfolding value_type
-      value_found = (value_port.present nz).1
+    value_found : find g.x g.fs ≡ some value_type
+    unfolding value_type
+    value_found = (value_port (Some p) found).1
 
-      module _ {want : Typ} {after : ℕ} {h : Hint} (rd : Read ks ws (p + 1) want after) (ih : (ρ : Naming) → HintIs ρ (some (asTy ρ want)) want.levels h) where
-        value_is : asTy g.W.text want ≡ value_type
-        value_is = (read_is value_typed rd).is
+    module _ {want : Typ} {behind : ℕ} (rd : Read ctx.records.kinds.now ctx.records.words.now (p + 1) want behind) where
+      value_is : asTy g.W.text want ≡ value_type
+      value_is = (read_is value_typed rd).is
 
-        -- the value under its field's type as hint
-        abbrev pub value_given : Given ks ws sc pk pw (at + 1) h
-        value_given = record {
-          W = g.W;
-          e = g.e;
-          stands = g.stands;
-          d = g.d;
-          top = g.top;
-          deep = g.deep;
-          casts = g.casts;
-          low = omega (arith, (ih g.W.text).low, rd.few);
-          known = (ih g.W.text).known;
-        }
+      -- the value under its field's type as hint
+      abbrev pub value_given : Given ctx side (at + 1) (Some want)
+      value_given = record { W = g.W; e = g.e; stands = g.stands; d = g.d; top = g.top; deep = g.deep; casts = g.casts; known = rd.known }
 
-        module _ {q : Spot} {o o₁ : List ℕ} {n : ℕ} {a : Inferred} (da : Inferring ks ws sc pk pw (at + 1) h q o n a o₁) where
-          value_tried : Said g.W.number q (try (infer g.W.Γ q.function (at + 1) g.e (some value_type))) (some (maybe g.W.text a.ok a.typ)) o n a.n o₁
-          value_tried = said_try (rw ((ih g.W.text).is, value_is) at (da value_given).said)
+      value_tried : {q : Spot} {l l₁ : Lines} {a : code.Option answer.Typed} → Inferring ctx side (at + 1) (Some want) q l a l₁
+          → Said g.W.number q (try (infer g.W.Γ q.function (at + 1) g.e (some value_type))) (some (typed g.W.text a)) l l₁
+      value_tried d = said_try (rw value_is at (d value_given).said)
 
-          -- it has a type: E0127 unless that is the field's
-          pub value_done : a.ok ≡ true → {step port m : ℕ} {o₂ : List ℕ}
-              → ((W : World ks ws sc) → Noted W.number q (unless_agrees W.Γ (asTy W.text want) (some (asTy W.text a.typ)) (named step 127 (W.text (get_or pw at 0)))) o₁ a.n m o₂)
-              → DoneValue ks ws sc pk pw at list step g q o n (record { next = a.next; port = port; n = m }) o₂
-          unfolding value
-          value_done y noted = record {
-            said = rw value_found (said_go _ (some (asTy g.W.text a.typ)) (ap (λ (v : Option Ty). some v) (maybe_yes g.W.text a.typ y)) value_tried (said_add refl (rw (value_is, g.name.text) at (noted g.W))));
-            next = (da value_given).next y;
-          }
+      -- it has a type: E0127 unless that is the field's
+      pub value_done : {q : Spot} {l l₁ l₂ : Lines} {a : answer.Typed} {step : ℕ} → Inferring ctx side (at + 1) (Some want) q l (Some a) l₁
+          → ((W : WorldOf ctx) → Noted W.number q (unless_agrees W.Γ (asTy W.text want) (some (asTy W.text a.typ)) (named step 127 (W.text (word_at side at)))) l₁ l₂)
+          → DoneValue ctx side at list step g q l a.next l₂
+      unfolding value
+      value_done {a = a} d noted = record {
+        said = rw value_found (said_go _ (some (asTy g.W.text a.typ)) refl (value_tried d) (said_add refl (rw (value_is, g.name.text) at (noted g.W))));
+        next = (d value_given).next;
+      }
 
-          -- it has none: nothing more is said, and the value is passed over
-          pub value_skipped : a.ok ≡ false → {step port next : ℕ} → ((t : There pk pw (at + 1)) → next ≡ at + 1 + size t.e)
-              → DoneValue ks ws sc pk pw at list step g q o n (record { next = next; port = port; n = a.n }) o₁
-          unfolding value unless_agrees
-          value_skipped y skipped = record {
-            said = rw value_found (said_go _ none (ap (λ (v : Option Ty). some v) (maybe_no g.W.text a.typ y)) value_tried (said_add refl noted_none));
-            next = skipped value_there;
-          }
+      -- it has none: nothing more is said, and the value is passed over
+      pub value_skipped : {q : Spot} {l l₁ : Lines} {step next : ℕ} → Inferring ctx side (at + 1) (Some want) q l None l₁
+          → ((t : There side.kinds.now side.words.now (at + 1)) → next ≡ at + 1 + size t.e)
+          → DoneValue ctx side at list step g q l next l₁
+      unfolding value unless_agrees
+      value_skipped d skipped = record {
+        said = rw value_found (said_go _ none refl (value_tried d) (said_add refl noted_none));
+        next = skipped value_there;
+      }
 
 -- ---- the field values one after another
 
--- What is left after some field values: j of them, from `next` on; the names so far are marked; and the rest of the values says the rest
--- of what all say.
-pub record Left (ks ws sc pk pw : List ℕ) (at list k step : ℕ) (g : GivenValues ks ws sc pk pw at list k) (q : Spot) (o : List ℕ) (n : ℕ) (out marks : List ℕ) (next m j : ℕ) : Type 0 where
+-- What is left after some field values: j of them, from `next` on; the names so far are in the set; and the rest of the values says the
+-- rest of what all say.
+pub record Left (ctx : Context) (side : Records) (at list k step : ℕ) (g : GivenValues ctx side at list k) (q : Spot) (l : Lines) (marks : List ℕ) (next : ℕ) (now : Lines) (j : ℕ) : Type 0 where
   pub vs : Inits
-  pub stand : InitsAt (source pk pw g.W.text) vs next
+  pub stand : InitsAt (source_of side g.W.text) vs next
   pub many : countⁱ vs ≡ j
   pub deep : g.d + depthsⁱ vs ≤ 61
   pub casts : ShallowCastsEachⁱ vs
@@ -134,13 +128,13 @@ pub record Left (ks ws sc pk pw : List ℕ) (at list k step : ℕ) (g : GivenVal
   pub names : List Name
   pub marked : Marked g.W.text names marks
   pub all : names ++ map (λ v. v.0) (infersⁱ g.W.Γ q.function next vs) ≡ map (λ v. v.0) (infersⁱ g.W.Γ q.function at g.vs)
-  pub rest : {m' : ℕ} {o' : List ℕ}
-      → Said g.W.number q (values g.W.Γ step g.fs (infersⁱ g.W.Γ q.function next vs)) (some tt) out m m' o'
-      → Said g.W.number q (values g.W.Γ step g.fs (infersⁱ g.W.Γ q.function at g.vs)) (some tt) o n m' o'
+  pub rest : {l' : Lines}
+      → Said g.W.number q (values g.W.Γ step g.fs (infersⁱ g.W.Γ q.function next vs)) (some tt) now l'
+      → Said g.W.number q (values g.W.Γ step g.fs (infersⁱ g.W.Γ q.function at g.vs)) (some tt) l l'
 
 -- before the first
-pub left_start : {ks ws sc pk pw : List ℕ} {at list k step : ℕ} (g : GivenValues ks ws sc pk pw at list k) {q : Spot} {o marks : List ℕ} {n j : ℕ}
-    → j ≡ k → ((ρ : Naming) → Marked ρ [] marks) → Left ks ws sc pk pw at list k step g q o n o marks at n j
+pub left_start : {ctx : Context} {side : Records} {at list k step : ℕ} (g : GivenValues ctx side at list k) {q : Spot} {l : Lines} {marks : List ℕ} {j : ℕ}
+    → j ≡ k → Marked g.W.text [] marks → Left ctx side at list k step g q l marks at l j
 left_start g e f = record {
   vs = g.vs;
   stand = g.stand;
@@ -149,7 +143,7 @@ left_start g e f = record {
   casts = g.casts;
   ends = refl;
   names = [];
-  marked = f g.W.text;
+  marked = f;
   all = refl;
   rest = λ d. d;
 }
@@ -167,14 +161,14 @@ module _ {vs : Inits} {x : Name} {e : Expr} {us : Inits} (is : vs ≡ init x e u
   unfolding size
   sizes_more = rw is
 
-module _ {ks ws sc pk pw : List ℕ} {at list k step : ℕ} {g : GivenValues ks ws sc pk pw at list k} {q : Spot} {o : List ℕ} {n : ℕ} {out marks : List ℕ} {next m j : ℕ}
-    (l : Left ks ws sc pk pw at list k step g q o n out marks next m j) where
+module _ {ctx : Context} {side : Records} {at list k step : ℕ} {g : GivenValues ctx side at list k} {q : Spot} {l : Lines} {marks : List ℕ} {next : ℕ} {now : Lines} {j : ℕ}
+    (left : Left ctx side at list k step g q l marks next now j) where
   module _ (some_left : j ≡ 0 → ⊥) where
-    abbrev one : FirstValue (source pk pw g.W.text) l.vs next j
-    one = first_value (source pk pw g.W.text) l.vs next j l.many some_left l.stand
+    abbrev one : FirstValue (source_of side g.W.text) left.vs next j
+    one = first_value (source_of side g.W.text) left.vs next j left.many some_left left.stand
 
     -- the next field value
-    abbrev pub left_given : GivenValue ks ws sc pk pw next list
+    abbrev pub left_given : GivenValue ctx side next list
     left_given = record {
       W = g.W;
       x = one.x;
@@ -184,59 +178,59 @@ module _ {ks ws sc pk pw : List ℕ} {at list k step : ℕ} {g : GivenValues ks 
       stands = one.e_at;
       d = g.d;
       top = g.top;
-      deep = (deep_more one.is g.d l.deep).0;
-      casts = (casts_more one.is l.casts).0;
+      deep = (deep_more one.is g.d left.deep).0;
+      casts = (casts_more one.is left.casts).0;
       fs = g.fs;
       fields = g.fields;
     }
 
-    left_all : (l.names ++ (g.W.text (get_or pw next 0) ∷ [])) ++ map (λ v. v.0) (infersⁱ g.W.Γ q.function (next + 1 + size one.e) one.rest) ≡ map (λ v. v.0) (infersⁱ g.W.Γ q.function at g.vs)
+    left_all : (left.names ++ (g.W.text (word_at side next) ∷ [])) ++ map (λ v. v.0) (infersⁱ g.W.Γ q.function (next + 1 + size one.e) one.rest) ≡ map (λ v. v.0) (infersⁱ g.W.Γ q.function at g.vs)
     unfolding infer
     left_all =
-        let z = rw one.is at l.all in
-        append_assoc l.names (g.W.text (get_or pw next 0) ∷ []) _ ∙ rw one.name.text z
+        let z = rw one.is at left.all in
+        append_assoc left.names (g.W.text (word_at side next) ∷ []) _ ∙ rw one.name.text z
 
-    -- one value more, with the mark of its name
-    pub left_step : {a : Seen} {out' marks' : List ℕ} {i : ℕ}
-        → ((ρ : Naming) → Injective ρ → (xs : List Name) → Marked ρ xs marks → Marked ρ (xs ++ (ρ (get_or pw next 0) ∷ [])) marks')
-        → DoneValue ks ws sc pk pw next list step left_given q out m a out' → i + 1 ≡ j
-        → Left ks ws sc pk pw at list k step g q o n out' marks' a.next a.n i
+    -- one value more, with its name in the set
+    pub left_step : {a : ℕ} {then : Lines} {marks' : List ℕ} {i : ℕ}
+        → Marked g.W.text (left.names ++ (g.W.text (word_at side next) ∷ [])) marks'
+        → DoneValue ctx side next list step left_given q now a then → i + 1 ≡ j
+        → Left ctx side at list k step g q l marks' a then i
     unfolding infer values
-    left_step {a} {i = i} f d e = record {
+    left_step f d e = record {
       vs = one.rest;
       stand = rw d.next one.rest_at;
       many = omega (arith, one.fewer);
-      deep = (deep_more one.is g.d l.deep).1;
-      casts = (casts_more one.is l.casts).1;
-      ends = omega (arith, d.next, l.ends, sizes_more one.is);
-      names = l.names ++ (g.W.text (get_or pw next 0) ∷ []);
-      marked = f g.W.text (apart g.W) l.names l.marked;
+      deep = (deep_more one.is g.d left.deep).1;
+      casts = (casts_more one.is left.casts).1;
+      ends = omega (arith, d.next, left.ends, sizes_more one.is);
+      names = left.names ++ (g.W.text (word_at side next) ∷ []);
+      marked = f;
       all = rw d.next left_all;
-      rest = λ s. l.rest (rw one.is (said_then tt refl d.said (rw d.next at s)));
+      rest = λ s. left.rest (rw one.is (said_then tt refl d.said (rw d.next at s)));
     }
 
   -- behind the last
-  pub left_end : j ≡ 0 → DoneValues ks ws sc pk pw at list k step g q o n (record { marks = marks; next = next; n = m }) out
+  pub left_end : {set : ValuesLeft} → j ≡ 0 → set.marks.bits ≡ marks → set.next ≡ next → DoneValues ctx side at list k step g q l set now
   unfolding infer values size
-  left_end z =
-      let e = no_values l.vs (l.many ∙ z) in
-      let v = rw e at l.ends in
-      let u = rw (e, append-nil l.names) at l.all in
-      record { said = l.rest (rw e (said_return tt)); next = omega arith; marked = rw (← u) l.marked }
+  left_end z m n =
+      let e = no_values left.vs (left.many ∙ z) in
+      let v = rw e at left.ends in
+      let u = rw (e, append-nil left.names) at left.all in
+      record { said = left.rest (rw e (said_return tt)); next = omega arith; marked = rw (← u, m) left.marked }
 
 -- ---- the struct
 
-module _ {ks ws sc pk pw : List ℕ} {at : ℕ} {h : Hint} (g : Given ks ws sc pk pw at h) (k : get_or pk at 0 ≡ 75) where
-  abbrev here : WithName (source pk pw g.W.text) at (λ x. inversions.Values (source pk pw g.W.text) (struct x) g.e at)
-  here = struct_here (source pk pw g.W.text) g.e at g.stands k
+module _ {ctx : Context} {side : Records} {at : ℕ} {h : code.Option Typ} (g : Given ctx side at h) (k : kind_at side at ≡ 75) where
+  abbrev here : WithName (source_of side g.W.text) at (λ x. inversions.Values (source_of side g.W.text) (struct x) g.e at)
+  here = struct_here (source_of side g.W.text) g.e at g.stands k
 
-  pub struct_small : get_or pw at 0 < 512
+  pub struct_small : word_at side at < 512
   struct_small = here.name.small
 
-  pub struct_list : RecAt (source pk pw g.W.text) (at + 1) 3
+  pub struct_list : RecAt (source_of side g.W.text) (at + 1) 3
   struct_list = here.holds.list
 
-  struct_is : g.e ≡ struct (g.W.text (get_or pw at 0)) here.holds.values
+  struct_is : g.e ≡ struct (g.W.text (word_at side at)) here.holds.values
   struct_is = here.holds.is ∙ ap (λ (x : Name). struct x here.holds.values) (sym here.name.text)
 
   pub struct_deep : g.d + 1 + depthsⁱ here.holds.values ≤ 61
@@ -251,19 +245,18 @@ module _ {ks ws sc pk pw : List ℕ} {at : ℕ} {h : Hint} (g : Given ks ws sc p
   unfolding size
   struct_ends = omega (arith, ap size struct_is)
 
-  module _ {name : ℕ} (small : name < 512) (is : (W : World ks ws sc) → W.text name ≡ struct_name W.Γ (W.text (get_or pw at 0)))
-      {q : Spot} {o o₁ : List ℕ} {n : ℕ} {c : Checked} (dc : (W : World ks ws sc) → Declared W at name q o n c o₁) where
+  module _ {name : ℕ} (small : name < 512) (is : (W : WorldOf ctx) → W.text name ≡ struct_name W.Γ (W.text (word_at side at))) (q : Spot) {l l₁ : Lines} where
     -- no such record: E0125
-    pub struct_unknown : c.ok ≡ false → {r : Inferred} → r.ok ≡ false → r.n ≡ c.n → Whole g q o n r o₁
+    pub struct_unknown : ((W : WorldOf ctx) → Declared W at name q l None l₁) → Whole g q l None l₁
     unfolding infer
-    struct_unknown y f e = ended f (rw (struct_is, ← is g.W, e) ((dc g.W).unfit y (infersⁱ g.W.Γ q.function (at + 2) here.holds.values) (asHint g.W.text h)))
+    struct_unknown d = nothing (rw (struct_is, ← is g.W) (d g.W (infersⁱ g.W.Γ q.function (at + 2) here.holds.values) (asHint g.W.text h)))
 
-    module _ (y : c.ok ≡ true) where
-      abbrev fit : Fields g.W name o n c o₁
-      fit = (dc g.W).fit y
+    module _ {list : ℕ} (dc : (W : WorldOf ctx) → Declared W at name q l (Some list) l₁) where
+      abbrev fit : Fields g.W name l list l₁
+      fit = dc g.W
 
       -- the field values beside the record's fields
-      abbrev pub struct_given : GivenValues ks ws sc pk pw (at + 2) c.next (get_or pw (at + 1) 0)
+      abbrev pub struct_given : GivenValues ctx side (at + 2) list (word_at side (at + 1))
       struct_given = record {
         W = g.W;
         vs = here.holds.values;
@@ -278,23 +271,20 @@ module _ {ks ws sc pk pw : List ℕ} {at : ℕ} {h : Hint} (g : Given ks ws sc p
       }
 
       -- the fields that may be missing
-      abbrev pub struct_fields : PortsHere ks ws c.next
+      abbrev pub struct_fields : PortsOf ctx.records list
       struct_fields = record { text = g.W.text; ps = fit.fs; listed = fit.listed }
 
       -- all is said, E0128 for each field not given, and the type is the record's
-      pub struct_done : {a : ValuesLeft} {o₂ : List ℕ}
-          → ((x : GivenValues ks ws sc pk pw (at + 2) c.next (get_or pw (at + 1) 0)) → DoneValues ks ws sc pk pw (at + 2) c.next (get_or pw (at + 1) 0) at x q o₁ c.n a o₂)
-          → {m : ℕ} {o₃ : List ℕ}
-          → ((x : PortsHere ks ws c.next) (num : Name → ℕ) → ((i : ℕ) → num (x.text i) ≡ i) → (xs : List Name) → Marked x.text xs a.marks → Noted num q (missing at x.ps xs) o₂ a.n m o₃)
+      pub struct_done : {a : ValuesLeft} {l₂ l₃ : Lines}
+          → ((x : GivenValues ctx side (at + 2) list (word_at side (at + 1))) → DoneValues ctx side (at + 2) list (word_at side (at + 1)) at x q l₁ a l₂)
+          → ((x : PortsOf ctx.records list) (num : Name → ℕ) → ((i : ℕ) → num (x.text i) ≡ i) → (xs : List Name) → Marked x.text xs a.marks.bits → Noted num q (missing at x.ps xs) l₂ l₃)
           → {t : Typ} → Bottom 33 name t
-          → Whole g q o n (record { ok = true; typ = t; next = a.next; n = m }) o₃
-      unfolding infer struct_rule struct_of if_found
+          → Whole g q l (Some (record { typ = t; next = a.next })) l₃
+      unfolding infer
       struct_done da dm {t} b =
-          typed refl
-          (omega (arith, b.flat))
-          (λ z. rw b.name small)
+          closed
+          (weaker {least = 0} (omega arith)
+          (rw (struct_is, ← is g.W)
+          (onward.struct_done at fit _ (asHint g.W.text h) t (da struct_given).said (dm struct_fields g.W.number g.W.back _ (da struct_given).marked)
+          (record { is = b.is g.W.text ∙ bottom_name g.W.text 33 name refl; low = omega (arith, b.flat); known = λ z. rw b.name small }))))
           ((da struct_given).next ∙ struct_ends)
-          (rw (struct_is, ← is g.W, fit.is, b.is g.W.text, bottom_name g.W.text 33 name refl)
-          (said_then tt refl (said_from fit.same_out fit.same_count (da struct_given).said)
-          (said_then tt refl (said_add refl (dm struct_fields g.W.number g.W.back _ (da struct_given).marked))
-          (said_return (Named (g.W.text name))))))

@@ -1,1137 +1,607 @@
 // The types of expressions: `infer_expr_type`, lib.rs 710, and `infer_iterator_type`, lib.rs 1233. This crate is the recursion alone:
 // each construct types its parts in the order of the Rust, each once, and hands their types to its rule, which stands in `rules`.
-// kinds and words are the whole project's, for what is declared; rk and rw are the part of them from the first record of a right-hand
-// side on, so that places are steps.
+// The context has the whole project's records, for what is declared; `side` is the part of them from the first record of a right-hand side
+// on, so that places are steps.
 #![tactic(auto)]
 
-ghost use Rattle.std.specs.Prelude.{◌≡◌, false, ◌&&◌, eqb, ◌<◌, ◌≤◌, length, get_or};
-ghost use Rattle.lustre.specs.Grammar.{literal_kind, unary_kind, when_kind, iterate_kind, iterate_from_kind};
-ghost use Rattle.lustre.specs.Expr.{Literal, size};
-ghost use Rattle.lustre.specs.Literal.{literal_type};
-ghost use Rattle.lustre.specs.Infer.{infer as infer_of};
-ghost use Rattle.types.specs.Value.{Known};
-ghost use Rattle.types.specs.Number.{asHint, Hinted};
-ghost use Rattle.rules.specs.Post.{Given, Done, Inferring};
+ghost use Rattle.std.specs.Prelude.{◌≡◌, ◌&&◌, ◌+◌, ◌<◌, ◌≤◌, eqb, Option, None};
+ghost use Rattle.types.specs.Place.{Read};
+ghost use Rattle.types.specs.declared.Typ.{Typ};
+ghost use Rattle.lustre.specs.declared.kinds.TheConstants.{INT_LITERAL, VARIABLE, MINUS, SHIFT_RIGHT, IF, CALL, FIELD, INDEX, TUPLE, ARRAY, STRUCT, CAST, MERGE};
+ghost use Rattle.lustre.specs.Grammar.{unary_kind, when_kind};
+ghost use Rattle.rules.specs.World.{TypeOf};
+ghost use Rattle.rules.specs.Post.{Given, Inferring};
 ghost use Rattle.rules.specs.Lists.{GivenArg, DoneArg, GivenArgs, DoneArgs, DoneItem, GivenItems, DoneItems, GivenValue, DoneValue, GivenValues, DoneValues, GivenArrays, DoneArrays};
-ghost use Rattle.infer.specs.Post.{Kind, GivenBoth, DoneBoth, GivenGather, DoneGather};
+ghost use Rattle.infer.specs.Post.{Few, kind_at, Kind, GivenBoth, DoneBoth, GivenGather, DoneGather, ListBehind};
 
-use lines::{Spot, put_line};
-use rules::hints::{basic_hint, element_hint, hint_of, no_hint, sub_hint};
+use lines::{Lines, Spot};
+use loops::NameSet;
+use lustre::{NONE, Records, codes, kinds};
+use rules::hints::{element_hint, sub_hint};
 use rules::iterators::{
-    ArraysLeft, Kept, fold_end, fold_inputs, input_at, iterated, kept_none, map_rule, take_array,
+    ArraysLeft, Kept, fold_end, fold_inputs, input_at, iterated, map_rule, take_array,
 };
 use rules::ports::{called, find_port, outputs_type};
-use rules::structs::{ValuesLeft, mark, missing, no_marks, record_of, struct_name};
+use rules::structs::{ValuesLeft, missing, record_of, struct_name};
 use rules::{
-    Checked, Inferred, NO_NAME, Seen, agree_rule, cast_rule, class_no, clock_rule, fail_plain,
-    field_rule, index_rule, is_truth, item_rule, literal_rule, operands, unary_rule, unless_agrees,
-    var_rule,
+    Seen, Typed, agree_rule, cast_rule, class_of, clock_rule, fail, field_rule, index_rule,
+    is_truth, item_rule, literal_rule, operands, unary_rule, unless_agrees, var_rule,
 };
 use standing::skip;
-use types::literal::{integer_literal_type, literal_type};
-use types::records::read_type;
-use types::{Hint, TUPLE, Typ, array_of, bottom_of, is_integer};
+use types::records::{TypeRead, read_type};
+use types::{Context, Typ};
 
-// What an iterator has before its last tests: if ok, the list of its function's inputs, the type of its output, what is kept of the
-// arrays, and where the next record is; and the number of lines so far.
+// What an iterator has before its last tests: the list of its function's inputs, the type of its output, what is kept of the arrays, and
+// where the next record is.
 #[derive(Drop)]
 pub struct Gathered {
-    pub ok: bool,
     pub inputs: usize,
     pub result: Typ,
     pub kept: Kept,
     pub next: usize,
-    pub n: u64,
-}
-
-// No type, and no line.
-fn no_type(n: u64) -> Inferred
-    ensures { (result.ok ≡ false) × (result.n ≡ n) }
-{
-    let typ = bottom_of(20, 0);
-    Inferred {
-        ok: false,
-        typ,
-        next: 0,
-        n,
-    }
 }
 
 // Whether a record of kind o before one of kind k is a minus directly on an integer literal, lib.rs 773.
 fn is_signed(o: u8, k: u8) -> bool
-    ensures { result ≡ (eqb o 46 && eqb k 41) }
+    ensures { result ≡ (eqb o MINUS && eqb k INT_LITERAL) }
 {
-    if o == 46 {
-        return k == 41;
-    }
-    false
+    o == kinds::MINUS && k == kinds::INT_LITERAL
 }
 
-// The kind of a literal's type, lib.rs 721 to 729, or 0. The hint is only read here, apart from the lines, so that it need not be copied.
+// A literal, lib.rs 721 to 729.
 fn literal(
-    kinds: &[u8],
-    words: &[u64],
-    scope: &[u64],
-    rk: &[u8],
-    rw: &[u64],
+    ctx: &Context,
+    side: &Records,
     at: usize,
-    hint: Hint,
-) -> u8
-    requires { Given kinds.now words.now scope.now rk.now rw.now at hint }
-    ensures { (l : Literal) → literal_kind l ≡ get_or rk.now at 0 → Hinted kinds.now words.now scope.now hint (λ al. literal_type al l (get_or rw.now at 0)) result }
+    hint: Option<Typ>,
+    q: Spot,
+    lines: &mut Lines,
+) -> Option<Typed>
+    requires { Given ctx.now side.now at hint × Few side.now × (kind_at side.now at < VARIABLE) }
+    ensures { Inferring ctx.now side.now at hint q lines.old result lines.new }
 {
-    let k = rk[at];
-    let w = rw[at];
-    literal_type(kinds, words, scope, k, w, hint)
+    let k = ctx.literal_type(side.kinds[at], side.words[at], hint);
+    let typ = literal_rule(k, at, q, lines)?;
+    Some(Typed { typ, next: at + 1 })
 }
 
 // A variable, lib.rs 754.
-fn variable(
-    kinds: &[u8],
-    words: &[u64],
-    scope: &[u64],
-    rk: &[u8],
-    rw: &[u64],
-    at: usize,
-    hint: Hint,
-    q: Spot,
-    out: &mut [u64],
-    n: u64,
-) -> Inferred
-    requires { Given kinds.now words.now scope.now rk.now rw.now at hint × (length rk.now ≤ 4096) × (get_or rk.now at 0 ≡ 44) }
-    ensures { Inferring kinds.now words.now scope.now rk.now rw.now at hint q out.old n result out.new }
+fn variable(ctx: &Context, side: &Records, at: usize, q: Spot, lines: &mut Lines) -> Option<Typed>
+    requires { Given ctx.now side.now at None × Few side.now × (kind_at side.now at ≡ VARIABLE) }
+    ensures { (h : Option Typ) → Inferring ctx.now side.now at h q lines.old result lines.new }
 {
-    let name = rw[at];
-    let next = at + 1;
-    var_rule(kinds, words, scope, name, at, next, q, out, n)
+    let typ = var_rule(ctx, side.words[at], at, q, lines)?;
+    Some(Typed { typ, next: at + 1 })
 }
 
 // A tuple, lib.rs 1198: its parts are not typed.
-fn tuple(
-    kinds: &[u8],
-    words: &[u64],
-    scope: &[u64],
-    rk: &[u8],
-    rw: &[u64],
-    at: usize,
-    hint: Hint,
-    q: Spot,
-    out: &mut [u64],
-    n: u64,
-) -> Inferred
-    requires { Given kinds.now words.now scope.now rk.now rw.now at hint × (length rk.now ≤ 4096) × (get_or rk.now at 0 ≡ 73) }
-    ensures { Inferring kinds.now words.now scope.now rk.now rw.now at hint q out.old n result out.new }
+fn tuple(ctx: &Context, side: &Records, at: usize, q: Spot, lines: &mut Lines) -> Option<Typed>
+    requires { Given ctx.now side.now at None × Few side.now × (kind_at side.now at ≡ TUPLE) }
+    ensures { (h : Option Typ) → Inferring ctx.now side.now at h q lines.old result lines.new }
 {
-    let count = rw[at];
-    let typ = bottom_of(TUPLE, count);
-    let next = skip(rk, rw, at);
-    Inferred {
-        ok: true,
-        typ,
-        next,
-        n,
-    }
+    Some(Typed {
+        typ: Typ::bottom(types::TUPLE, side.words[at]),
+        next: skip(side, at),
+    })
+}
+
+// The type of the port at a place, and the record behind it.
+fn port_type(records: &Records, port: usize) -> TypeRead
+    requires { TypeOf records.now (port + 1) }
+    ensures { Read records.now.kinds.now records.now.words.now (port + 1) result.typ result.next }
+{
+    read_type(records, port + 1)
 }
 
 // `not` and minus, lib.rs 770: a minus directly on an integer literal is a signed literal.
 #[cycle(inference)]
 fn unary(
-    kinds: &[u8],
-    words: &[u64],
-    scope: &[u64],
-    rk: &[u8],
-    rw: &[u64],
+    ctx: &Context,
+    side: &Records,
     at: usize,
-    hint: Hint,
+    hint: Option<Typ>,
     q: Spot,
-    out: &mut [u64],
-    n: u64,
-) -> Inferred
-    requires { Given kinds.now words.now scope.now rk.now rw.now at hint × (length rk.now ≤ 4096) × Kind unary_kind rk.now at }
-    ensures { Inferring kinds.now words.now scope.now rk.now rw.now at hint q out.old n result out.new }
+    lines: &mut Lines,
+) -> Option<Typed>
+    requires { Given ctx.now side.now at hint × Few side.now × Kind unary_kind side.now at }
+    ensures { Inferring ctx.now side.now at hint q lines.old result lines.new }
 {
-    let o = rk[at];
+    let o = side.kinds[at];
     let p = at + 1;
-    let k = rk[p];
-    if is_signed(o, k) {
-        let w = rw[p];
-        let t = integer_literal_type(kinds, words, scope, w, true, hint);
-        let next = at + 2;
-        literal_rule(t, at, next, q, out, n)
-    } else {
-        let a = infer(kinds, words, scope, rk, rw, p, hint, q, out, n);
-        if a.ok {
-            let t = a.typ;
-            unary_rule(kinds, words, scope, o, t, at, a.next, q, out, a.n)
-        } else {
-            a
-        }
+    if is_signed(o, side.kinds[p]) {
+        let k = ctx.integer_literal_type(side.words[p], true, hint);
+        let typ = literal_rule(k, at, q, lines)?;
+        return Some(Typed { typ, next: at + 2 });
     }
+    let a = infer(ctx, side, p, hint, q, lines)?;
+    let typ = unary_rule(ctx, o, a.typ, at, q, lines)?;
+    Some(Typed { typ, next: a.next })
 }
 
-// A binary operator, lib.rs 805: h is the left operand's hint and then the right one's, lib.rs 818.
+// A binary operator, lib.rs 805: the right operand has the left one's type as hint if that is an integer type, lib.rs 818.
 #[cycle(inference)]
 fn binary(
-    kinds: &[u8],
-    words: &[u64],
-    scope: &[u64],
-    rk: &[u8],
-    rw: &[u64],
+    ctx: &Context,
+    side: &Records,
     at: usize,
-    hint: Hint,
+    hint: Option<Typ>,
     q: Spot,
-    out: &mut [u64],
-    n: u64,
-) -> Inferred
-    requires { Given kinds.now words.now scope.now rk.now rw.now at hint × (length rk.now ≤ 4096) × (47 ≤ get_or rk.now at 0) × (get_or rk.now at 0 ≤ 66) }
-    ensures { Inferring kinds.now words.now scope.now rk.now rw.now at hint q out.old n result out.new }
+    lines: &mut Lines,
+) -> Option<Typed>
+    requires { Given ctx.now side.now at hint × Few side.now × (MINUS < kind_at side.now at) × (kind_at side.now at ≤ SHIFT_RIGHT) }
+    ensures { Inferring ctx.now side.now at hint q lines.old result lines.new }
 {
-    let k = rk[at];
-    let class = class_no(k);
-    let mut h = sub_hint(class, hint);
-    let a = infer(kinds, words, scope, rk, rw, at + 1, h, q, out, n);
-    if a.ok {
-        let l = a.typ;
-        if is_integer(l) {
-            h = hint_of(l);
-        }
-        let b = infer(kinds, words, scope, rk, rw, a.next, h, q, out, a.n);
-        if b.ok {
-            let r = b.typ;
-            operands(kinds, words, scope, class, l, r, at, b.next, q, out, b.n)
-        } else {
-            b
-        }
-    } else {
-        a
-    }
+    let class = class_of(side.kinds[at]);
+    let h = sub_hint(class, hint);
+    let l = infer(ctx, side, at + 1, h, q, lines)?;
+    let right = if l.typ.is_integer() { Some(l.typ) } else { h };
+    let r = infer(ctx, side, l.next, right, q, lines)?;
+    let typ = operands(ctx, class, l.typ, &r.typ, at, q, lines)?;
+    Some(Typed { typ, next: r.next })
 }
 
 // Two parts that must agree, the second hinted by the first, lib.rs 917, 934 and 1207: the branches of `if` and `merge`, the sides of `->`.
 #[cycle(inference)]
 fn both(
-    kinds: &[u8],
-    words: &[u64],
-    scope: &[u64],
-    rk: &[u8],
-    rw: &[u64],
+    ctx: &Context,
+    side: &Records,
     first: usize,
     step: usize,
     code: u64,
-    hint: Hint,
+    hint: Option<Typ>,
     q: Spot,
-    out: &mut [u64],
-    n: u64,
-) -> Inferred
-    requires { GivenBoth kinds.now words.now scope.now rk.now rw.now first hint × (length rk.now ≤ 4096) }
-    ensures { DoneBoth kinds.now words.now scope.now rk.now rw.now first step code hint q out.old n result out.new }
+    lines: &mut Lines,
+) -> Option<Typed>
+    requires { GivenBoth ctx.now side.now first hint × Few side.now }
+    ensures { DoneBoth ctx.now side.now first step code hint q lines.old result lines.new }
 {
-    let mut h = hint;
-    let a = infer(kinds, words, scope, rk, rw, first, h, q, out, n);
-    if a.ok {
-        let l = a.typ;
-        if !h.given {
-            h = hint_of(l);
-        }
-        let b = infer(kinds, words, scope, rk, rw, a.next, h, q, out, a.n);
-        if b.ok {
-            let r = b.typ;
-            agree_rule(kinds, words, scope, code, l, r, step, b.next, q, out, b.n)
-        } else {
-            b
-        }
-    } else {
-        a
-    }
+    let a = infer(ctx, side, first, hint, q, lines)?;
+    let b = infer(ctx, side, a.next, hint.or(Some(a.typ)), q, lines)?;
+    let typ = agree_rule(ctx, code, a.typ, &b.typ, step, q, lines)?;
+    Some(Typed { typ, next: b.next })
 }
 
 // `if`, lib.rs 901: E0090, E0091.
 #[cycle(inference)]
 fn ite(
-    kinds: &[u8],
-    words: &[u64],
-    scope: &[u64],
-    rk: &[u8],
-    rw: &[u64],
+    ctx: &Context,
+    side: &Records,
     at: usize,
-    hint: Hint,
+    hint: Option<Typ>,
     q: Spot,
-    out: &mut [u64],
-    n: u64,
-) -> Inferred
-    requires { Given kinds.now words.now scope.now rk.now rw.now at hint × (length rk.now ≤ 4096) × (get_or rk.now at 0 ≡ 67) }
-    ensures { Inferring kinds.now words.now scope.now rk.now rw.now at hint q out.old n result out.new }
+    lines: &mut Lines,
+) -> Option<Typed>
+    requires { Given ctx.now side.now at hint × Few side.now × (kind_at side.now at ≡ IF) }
+    ensures { Inferring ctx.now side.now at hint q lines.old result lines.new }
 {
-    let h = basic_hint(20);
-    let c = infer(kinds, words, scope, rk, rw, at + 1, h, q, out, n);
-    if c.ok {
-        let s = c.typ;
-        if is_truth(kinds, words, scope, s) {
-            both(
-                kinds, words, scope, rk, rw, c.next, at, 91, hint, q, out, c.n,
-            )
-        } else {
-            fail_plain(out, q, c.n, 90, at)
-        }
-    } else {
-        c
+    let wanted = Some(Typ::bottom(kinds::BOOL, 0));
+    let c = infer(ctx, side, at + 1, wanted, q, lines)?;
+    if is_truth(ctx, &c.typ) {
+        return both(ctx, side, c.next, at, codes::E0091, hint, q, lines);
     }
+    fail(codes::E0090, at, NONE, q, lines)
 }
 
 // `when`, lib.rs 1199.
 #[cycle(inference)]
 fn when(
-    kinds: &[u8],
-    words: &[u64],
-    scope: &[u64],
-    rk: &[u8],
-    rw: &[u64],
+    ctx: &Context,
+    side: &Records,
     at: usize,
-    hint: Hint,
+    hint: Option<Typ>,
     q: Spot,
-    out: &mut [u64],
-    n: u64,
-) -> Inferred
-    requires { Given kinds.now words.now scope.now rk.now rw.now at hint × (length rk.now ≤ 4096) × Kind when_kind rk.now at }
-    ensures { Inferring kinds.now words.now scope.now rk.now rw.now at hint q out.old n result out.new }
+    lines: &mut Lines,
+) -> Option<Typed>
+    requires { Given ctx.now side.now at hint × Few side.now × Kind when_kind side.now at }
+    ensures { Inferring ctx.now side.now at hint q lines.old result lines.new }
 {
-    let name = rw[at];
-    let m = clock_rule(kinds, words, scope, name, at, q, out, n);
-    infer(kinds, words, scope, rk, rw, at + 1, hint, q, out, m)
+    clock_rule(ctx, side.words[at], at, q, lines);
+    infer(ctx, side, at + 1, hint, q, lines)
 }
 
 // `merge`, lib.rs 1204: E0131.
 #[cycle(inference)]
 fn merge(
-    kinds: &[u8],
-    words: &[u64],
-    scope: &[u64],
-    rk: &[u8],
-    rw: &[u64],
+    ctx: &Context,
+    side: &Records,
     at: usize,
-    hint: Hint,
+    hint: Option<Typ>,
     q: Spot,
-    out: &mut [u64],
-    n: u64,
-) -> Inferred
-    requires { Given kinds.now words.now scope.now rk.now rw.now at hint × (length rk.now ≤ 4096) × (get_or rk.now at 0 ≡ 79) }
-    ensures { Inferring kinds.now words.now scope.now rk.now rw.now at hint q out.old n result out.new }
+    lines: &mut Lines,
+) -> Option<Typed>
+    requires { Given ctx.now side.now at hint × Few side.now × (kind_at side.now at ≡ MERGE) }
+    ensures { Inferring ctx.now side.now at hint q lines.old result lines.new }
 {
-    let name = rw[at];
-    let m = clock_rule(kinds, words, scope, name, at, q, out, n);
-    both(
-        kinds,
-        words,
-        scope,
-        rk,
-        rw,
-        at + 1,
-        at,
-        131,
-        hint,
-        q,
-        out,
-        m,
-    )
+    clock_rule(ctx, side.words[at], at, q, lines);
+    both(ctx, side, at + 1, at, codes::E0131, hint, q, lines)
 }
 
 // A field, lib.rs 1007.
 #[cycle(inference)]
-fn field(
-    kinds: &[u8],
-    words: &[u64],
-    scope: &[u64],
-    rk: &[u8],
-    rw: &[u64],
-    at: usize,
-    hint: Hint,
-    q: Spot,
-    out: &mut [u64],
-    n: u64,
-) -> Inferred
-    requires { Given kinds.now words.now scope.now rk.now rw.now at hint × (length rk.now ≤ 4096) × (get_or rk.now at 0 ≡ 71) }
-    ensures { Inferring kinds.now words.now scope.now rk.now rw.now at hint q out.old n result out.new }
+fn field(ctx: &Context, side: &Records, at: usize, q: Spot, lines: &mut Lines) -> Option<Typed>
+    requires { Given ctx.now side.now at None × Few side.now × (kind_at side.now at ≡ FIELD) }
+    ensures { (h : Option Typ) → Inferring ctx.now side.now at h q lines.old result lines.new }
 {
-    let name = rw[at];
-    let h = no_hint();
-    let a = infer(kinds, words, scope, rk, rw, at + 1, h, q, out, n);
-    if a.ok {
-        let t = a.typ;
-        field_rule(kinds, words, scope, name, t, at, a.next, q, out, a.n)
-    } else {
-        a
-    }
+    let a = infer(ctx, side, at + 1, None, q, lines)?;
+    let typ = field_rule(ctx, side.words[at], &a.typ, at, q, lines)?;
+    Some(Typed { typ, next: a.next })
 }
 
 // An index, lib.rs 1052.
 #[cycle(inference)]
-fn index(
-    kinds: &[u8],
-    words: &[u64],
-    scope: &[u64],
-    rk: &[u8],
-    rw: &[u64],
-    at: usize,
-    hint: Hint,
-    q: Spot,
-    out: &mut [u64],
-    n: u64,
-) -> Inferred
-    requires { Given kinds.now words.now scope.now rk.now rw.now at hint × (length rk.now ≤ 4096) × (get_or rk.now at 0 ≡ 72) }
-    ensures { Inferring kinds.now words.now scope.now rk.now rw.now at hint q out.old n result out.new }
+fn index(ctx: &Context, side: &Records, at: usize, q: Spot, lines: &mut Lines) -> Option<Typed>
+    requires { Given ctx.now side.now at None × Few side.now × (kind_at side.now at ≡ INDEX) }
+    ensures { (h : Option Typ) → Inferring ctx.now side.now at h q lines.old result lines.new }
 {
-    let h = no_hint();
-    let a = infer(kinds, words, scope, rk, rw, at + 1, h, q, out, n);
-    if a.ok {
-        let l = a.typ;
-        let g = basic_hint(23);
-        let b = infer(kinds, words, scope, rk, rw, a.next, g, q, out, a.n);
-        if b.ok {
-            let r = b.typ;
-            index_rule(kinds, words, scope, l, r, at, b.next, q, out, b.n)
-        } else {
-            b
-        }
-    } else {
-        a
-    }
+    let b = infer(ctx, side, at + 1, None, q, lines)?;
+    let wanted = Some(Typ::bottom(kinds::INT32, 0));
+    let i = infer(ctx, side, b.next, wanted, q, lines)?;
+    let typ = index_rule(ctx, &b.typ, &i.typ, at, q, lines)?;
+    Some(Typed { typ, next: i.next })
 }
 
 // A cast, lib.rs 730.
 #[cycle(inference)]
-fn cast(
-    kinds: &[u8],
-    words: &[u64],
-    scope: &[u64],
-    rk: &[u8],
-    rw: &[u64],
-    at: usize,
-    hint: Hint,
-    q: Spot,
-    out: &mut [u64],
-    n: u64,
-) -> Inferred
-    requires { Given kinds.now words.now scope.now rk.now rw.now at hint × (length rk.now ≤ 4096) × (get_or rk.now at 0 ≡ 76) }
-    ensures { Inferring kinds.now words.now scope.now rk.now rw.now at hint q out.old n result out.new }
+fn cast(ctx: &Context, side: &Records, at: usize, q: Spot, lines: &mut Lines) -> Option<Typed>
+    requires { Given ctx.now side.now at None × Few side.now × (kind_at side.now at ≡ CAST) }
+    ensures { (h : Option Typ) → Inferring ctx.now side.now at h q lines.old result lines.new }
 {
-    let d = read_type(rk, rw, at + 1);
-    let to = d.typ;
-    let h = no_hint();
-    let a = infer(kinds, words, scope, rk, rw, d.next, h, q, out, n);
-    if a.ok {
-        let t = a.typ;
-        cast_rule(kinds, words, scope, to, t, at, a.next, q, out, a.n)
-    } else {
-        a
-    }
+    let to = read_type(side, at + 1);
+    let a = infer(ctx, side, to.next, None, q, lines)?;
+    let typ = cast_rule(ctx, to.typ, &a.typ, at, q, lines)?;
+    Some(Typed { typ, next: a.next })
 }
 
 // An argument at a place beside the port at another, lib.rs 983: E0103.
 #[cycle(inference)]
 fn arg(
-    kinds: &[u8],
-    words: &[u64],
-    scope: &[u64],
-    rk: &[u8],
-    rw: &[u64],
+    ctx: &Context,
+    side: &Records,
     at: usize,
     port: usize,
     step: usize,
     name: u64,
     q: Spot,
-    out: &mut [u64],
-    n: u64,
+    lines: &mut Lines,
 ) -> Seen
-    requires { GivenArg kinds.now words.now scope.now rk.now rw.now at port × (length rk.now ≤ 4096) }
-    ensures { (g : GivenArg kinds.now words.now scope.now rk.now rw.now at port) → DoneArg kinds.now words.now scope.now rk.now rw.now at port step name g q out.old n result out.new }
+    requires { GivenArg ctx.now side.now at port × Few side.now }
+    ensures { (g : GivenArg ctx.now side.now at port) → DoneArg ctx.now side.now at port step name g q lines.old result lines.new }
 {
-    let p = port + 1;
-    let d = read_type(kinds, words, p);
-    let want = d.typ;
-    let after = d.next;
-    let h = hint_of(want);
-    let a = infer(kinds, words, scope, rk, rw, at, h, q, out, n);
-    if a.ok {
-        let t = a.typ;
-        let m = unless_agrees(kinds, words, scope, want, t, 103, step, name, q, out, a.n);
-        Seen {
-            next: a.next,
-            port: after,
-            n: m,
-        }
-    } else {
-        let next = skip(rk, rw, at);
-        Seen {
-            next,
-            port: after,
-            n: a.n,
-        }
-    }
+    let want = port_type(&ctx.records, port);
+    let port = want.next;
+    let Some(a) = infer(ctx, side, at, Some(want.typ), q, lines) else {
+        return Seen {
+            next: skip(side, at),
+            port,
+        };
+    };
+    unless_agrees(ctx, &want.typ, &a.typ, codes::E0103, step, name, q, lines);
+    Seen { next: a.next, port }
 }
 
 // The arguments of a call, lib.rs 983.
+// Kept: walks over operands here and below hold their place beside a for, since typing an operand tells where it ends.
 #[cycle(inference)]
 fn args(
-    kinds: &[u8],
-    words: &[u64],
-    scope: &[u64],
-    rk: &[u8],
-    rw: &[u64],
+    ctx: &Context,
+    side: &Records,
     at: usize,
     port: usize,
     count: u64,
     step: usize,
     name: u64,
     q: Spot,
-    out: &mut [u64],
-    n: u64,
+    lines: &mut Lines,
 ) -> Seen
-    requires { GivenArgs kinds.now words.now scope.now rk.now rw.now at port count × (length rk.now ≤ 4096) }
-    ensures { (g : GivenArgs kinds.now words.now scope.now rk.now rw.now at port count) → DoneArgs kinds.now words.now scope.now rk.now rw.now at port count step name g q out.old n result out.new }
+    requires { GivenArgs ctx.now side.now at port count × Few side.now }
+    ensures { (g : GivenArgs ctx.now side.now at port count) → DoneArgs ctx.now side.now at port count step name g q lines.old result lines.new }
 {
-    let mut next = at;
-    let mut p = port;
-    let mut m = n;
-    let mut i: u64 = 0;
-    while i < count {
-        let a = arg(kinds, words, scope, rk, rw, next, p, step, name, q, out, m);
-        next = a.next;
-        p = a.port;
-        m = a.n;
-        i += 1;
+    let mut seen = Seen { next: at, port };
+    for _ in 0..count {
+        seen = arg(ctx, side, seen.next, seen.port, step, name, q, lines);
     }
-    Seen {
-        next,
-        port: p,
-        n: m,
-    }
+    seen
 }
 
 // A call, lib.rs 948.
 #[cycle(inference)]
-fn call(
-    kinds: &[u8],
-    words: &[u64],
-    scope: &[u64],
-    rk: &[u8],
-    rw: &[u64],
-    at: usize,
-    hint: Hint,
-    q: Spot,
-    out: &mut [u64],
-    n: u64,
-) -> Inferred
-    requires { Given kinds.now words.now scope.now rk.now rw.now at hint × (length rk.now ≤ 4096) × (get_or rk.now at 0 ≡ 70) }
-    ensures { Inferring kinds.now words.now scope.now rk.now rw.now at hint q out.old n result out.new }
+fn call(ctx: &Context, side: &Records, at: usize, q: Spot, lines: &mut Lines) -> Option<Typed>
+    requires { Given ctx.now side.now at None × Few side.now × (kind_at side.now at ≡ CALL) }
+    ensures { (h : Option Typ) → Inferring ctx.now side.now at h q lines.old result lines.new }
 {
-    let name = rw[at];
-    let list = at + 1;
-    let count = rw[list];
-    let c = called(kinds, words, scope, name, count, at, q, out, n);
-    if c.ok {
-        let a = args(
-            kinds,
-            words,
-            scope,
-            rk,
-            rw,
-            at + 2,
-            c.next,
-            count,
-            at,
-            name,
-            q,
-            out,
-            c.n,
-        );
-        let typ = outputs_type(kinds, words, a.port);
-        Inferred {
-            ok: true,
-            typ,
-            next: a.next,
-            n: a.n,
-        }
-    } else {
-        no_type(c.n)
-    }
+    let name = side.words[at];
+    let count = side.words[at + 1];
+    let port = called(ctx, name, count, at, q, lines)?;
+    let a = args(ctx, side, at + 2, port, count, at, name, q, lines);
+    Some(Typed {
+        typ: outputs_type(&ctx.records, a.port),
+        next: a.next,
+    })
 }
 
-// An item of the array at `step`, whose first item has the type `first`, lib.rs 1114: E0124.
+// An item of the array at `step`, whose first item has the type `first`, lib.rs 1114: E0124. The record behind it.
 #[cycle(inference)]
 fn item(
-    kinds: &[u8],
-    words: &[u64],
-    scope: &[u64],
-    rk: &[u8],
-    rw: &[u64],
+    ctx: &Context,
+    side: &Records,
     at: usize,
-    first: Typ,
-    h: Hint,
+    first: &Typ,
+    h: Option<Typ>,
     step: usize,
     q: Spot,
-    out: &mut [u64],
-    n: u64,
-) -> Checked
-    requires { Given kinds.now words.now scope.now rk.now rw.now at h × (length rk.now ≤ 4096) × (first.levels ≤ 127) }
-    ensures { (g : Given kinds.now words.now scope.now rk.now rw.now at h) → DoneItem kinds.now words.now scope.now rk.now rw.now at h first step g q out.old n result out.new }
+    lines: &mut Lines,
+) -> Option<usize>
+    requires { Given ctx.now side.now at h × Few side.now }
+    ensures { (g : Given ctx.now side.now at h) → DoneItem ctx.now side.now at h first.now step g q lines.old result lines.new }
 {
-    let a = infer(kinds, words, scope, rk, rw, at, h, q, out, n);
-    if a.ok {
-        let t = a.typ;
-        item_rule(kinds, words, scope, first, t, step, a.next, q, out, a.n)
-    } else {
-        Checked {
-            ok: false,
-            next: 0,
-            n: a.n,
-        }
-    }
+    let a = infer(ctx, side, at, h, q, lines)?;
+    item_rule(ctx, first, &a.typ, step, q, lines).then_some(a.next)
 }
 
 // The items of an array behind the first.
 #[cycle(inference)]
 fn items(
-    kinds: &[u8],
-    words: &[u64],
-    scope: &[u64],
-    rk: &[u8],
-    rw: &[u64],
+    ctx: &Context,
+    side: &Records,
     at: usize,
     count: u64,
-    first: Typ,
-    h: Hint,
+    first: &Typ,
+    h: Option<Typ>,
     step: usize,
     q: Spot,
-    out: &mut [u64],
-    n: u64,
-) -> Checked
-    requires { GivenItems kinds.now words.now scope.now rk.now rw.now at count h × (length rk.now ≤ 4096) × (first.levels ≤ 127) }
-    ensures { (g : GivenItems kinds.now words.now scope.now rk.now rw.now at count h) → DoneItems kinds.now words.now scope.now rk.now rw.now at count h first step g q out.old n result out.new }
+    lines: &mut Lines,
+) -> Option<usize>
+    requires { GivenItems ctx.now side.now at count h × Few side.now }
+    ensures { (g : GivenItems ctx.now side.now at count h) → DoneItems ctx.now side.now at count h first.now step g q lines.old result lines.new }
 {
     let mut next = at;
-    let mut m = n;
-    let mut i: u64 = 0;
-    while i < count {
-        let a = item(kinds, words, scope, rk, rw, next, first, h, step, q, out, m);
-        if a.ok {
-            next = a.next;
-            m = a.n;
-            i += 1;
-            continue;
-        }
-        return a;
+    for _ in 0..count {
+        next = item(ctx, side, next, first, h, step, q, lines)?;
     }
-    Checked {
-        ok: true,
-        next,
-        n: m,
-    }
+    Some(next)
 }
 
 // An array, lib.rs 1090: E0123, E0124.
 #[cycle(inference)]
 fn array(
-    kinds: &[u8],
-    words: &[u64],
-    scope: &[u64],
-    rk: &[u8],
-    rw: &[u64],
+    ctx: &Context,
+    side: &Records,
     at: usize,
-    hint: Hint,
+    hint: Option<Typ>,
     q: Spot,
-    out: &mut [u64],
-    n: u64,
-) -> Inferred
-    requires { Given kinds.now words.now scope.now rk.now rw.now at hint × (length rk.now ≤ 4096) × (get_or rk.now at 0 ≡ 74) }
-    ensures { Inferring kinds.now words.now scope.now rk.now rw.now at hint q out.old n result out.new }
+    lines: &mut Lines,
+) -> Option<Typed>
+    requires { Given ctx.now side.now at hint × Few side.now × (kind_at side.now at ≡ ARRAY) }
+    ensures { Inferring ctx.now side.now at hint q lines.old result lines.new }
 {
-    let count = rw[at];
-    let h = element_hint(kinds, words, scope, hint);
+    let count = side.words[at];
+    let h = element_hint(ctx, hint);
     if count == 0 {
-        if h.given {
-            let e = h.typ;
-            let typ = array_of(0, e);
-            let next = at + 1;
-            Inferred {
-                ok: true,
-                typ,
-                next,
-                n,
-            }
-        } else {
-            fail_plain(out, q, n, 123, at)
-        }
-    } else {
-        let a = infer(kinds, words, scope, rk, rw, at + 1, h, q, out, n);
-        if a.ok {
-            let first = a.typ;
-            let b = items(
-                kinds,
-                words,
-                scope,
-                rk,
-                rw,
-                a.next,
-                count - 1,
-                first,
-                h,
-                at,
-                q,
-                out,
-                a.n,
-            );
-            if b.ok {
-                let long = count as u32;
-                let typ = array_of(long, first);
-                Inferred {
-                    ok: true,
-                    typ,
-                    next: b.next,
-                    n: b.n,
-                }
-            } else {
-                no_type(b.n)
-            }
-        } else {
-            a
-        }
+        let Some(e) = h else {
+            return fail(codes::E0123, at, NONE, q, lines);
+        };
+        return Some(Typed {
+            typ: e.array(0),
+            next: at + 1,
+        });
     }
+    let first = infer(ctx, side, at + 1, h, q, lines)?;
+    let next = items(
+        ctx,
+        side,
+        first.next,
+        count - 1,
+        &first.typ,
+        h,
+        at,
+        q,
+        lines,
+    )?;
+    Some(Typed {
+        typ: first.typ.array(count as u32),
+        next,
+    })
 }
 
-// A field value at its record, lib.rs 1141, of a record whose fields are in the list at another place: E0126, E0127.
+// A field value at its record, lib.rs 1141, of a record whose fields are in the list at another place: E0126, E0127. The record behind it.
 #[cycle(inference)]
 fn value(
-    kinds: &[u8],
-    words: &[u64],
-    scope: &[u64],
-    rk: &[u8],
-    rw: &[u64],
+    ctx: &Context,
+    side: &Records,
     at: usize,
     list: usize,
     step: usize,
     q: Spot,
-    out: &mut [u64],
-    n: u64,
-) -> Seen
-    requires { GivenValue kinds.now words.now scope.now rk.now rw.now at list × (length rk.now ≤ 4096) }
-    ensures { (g : GivenValue kinds.now words.now scope.now rk.now rw.now at list) → DoneValue kinds.now words.now scope.now rk.now rw.now at list step g q out.old n result out.new }
+    lines: &mut Lines,
+) -> usize
+    requires { GivenValue ctx.now side.now at list × Few side.now }
+    ensures { (g : GivenValue ctx.now side.now at list) → DoneValue ctx.now side.now at list step g q lines.old result lines.new }
 {
-    let name = rw[at];
+    let name = side.words[at];
     let first = at + 1;
-    let p = find_port(kinds, words, list, name);
-    if p == 0 {
-        let m = put_line(out, q, n, 126, step as u64, name);
-        let next = skip(rk, rw, first);
-        Seen {
-            next,
-            port: p,
-            n: m,
-        }
-    } else {
-        let d = read_type(kinds, words, p + 1);
-        let want = d.typ;
-        let h = hint_of(want);
-        let a = infer(kinds, words, scope, rk, rw, first, h, q, out, n);
-        if a.ok {
-            let t = a.typ;
-            let m = unless_agrees(kinds, words, scope, want, t, 127, step, name, q, out, a.n);
-            Seen {
-                next: a.next,
-                port: p,
-                n: m,
-            }
-        } else {
-            let next = skip(rk, rw, first);
-            Seen {
-                next,
-                port: p,
-                n: a.n,
-            }
-        }
-    }
+    let Some(p) = find_port(&ctx.records, list, name) else {
+        lines.put(q, codes::E0126, step as u64, name);
+        return skip(side, first);
+    };
+    let want = port_type(&ctx.records, p);
+    let Some(a) = infer(ctx, side, first, Some(want.typ), q, lines) else {
+        return skip(side, first);
+    };
+    unless_agrees(ctx, &want.typ, &a.typ, codes::E0127, step, name, q, lines);
+    a.next
 }
 
 // The field values of a struct, and the names that they give.
 #[cycle(inference)]
 fn values(
-    kinds: &[u8],
-    words: &[u64],
-    scope: &[u64],
-    rk: &[u8],
-    rw: &[u64],
+    ctx: &Context,
+    side: &Records,
     at: usize,
     list: usize,
     count: u64,
     step: usize,
     q: Spot,
-    out: &mut [u64],
-    n: u64,
+    lines: &mut Lines,
 ) -> ValuesLeft
-    requires { GivenValues kinds.now words.now scope.now rk.now rw.now at list count × (length rk.now ≤ 4096) }
-    ensures { (g : GivenValues kinds.now words.now scope.now rk.now rw.now at list count) → DoneValues kinds.now words.now scope.now rk.now rw.now at list count step g q out.old n result out.new }
+    requires { GivenValues ctx.now side.now at list count × Few side.now }
+    ensures { (g : GivenValues ctx.now side.now at list count) → DoneValues ctx.now side.now at list count step g q lines.old result lines.new }
 {
-    let mut marks = no_marks();
+    let mut marks = NameSet::new();
     let mut next = at;
-    let mut m = n;
-    let mut i: u64 = 0;
-    while i < count {
-        let name = rw[next];
-        marks = mark(marks, name);
-        let a = value(kinds, words, scope, rk, rw, next, list, step, q, out, m);
-        next = a.next;
-        m = a.n;
-        i += 1;
+    for _ in 0..count {
+        marks.insert(side.words[next]);
+        next = value(ctx, side, next, list, step, q, lines);
     }
-    let bits = marks.bits;
-    ValuesLeft {
-        marks: bits,
-        next,
-        n: m,
-    }
+    ValuesLeft { marks, next }
 }
 
 // A struct value, lib.rs 1134.
 #[cycle(inference)]
-fn build(
-    kinds: &[u8],
-    words: &[u64],
-    scope: &[u64],
-    rk: &[u8],
-    rw: &[u64],
-    at: usize,
-    hint: Hint,
-    q: Spot,
-    out: &mut [u64],
-    n: u64,
-) -> Inferred
-    requires { Given kinds.now words.now scope.now rk.now rw.now at hint × (length rk.now ≤ 4096) × (get_or rk.now at 0 ≡ 75) }
-    ensures { Inferring kinds.now words.now scope.now rk.now rw.now at hint q out.old n result out.new }
+fn build(ctx: &Context, side: &Records, at: usize, q: Spot, lines: &mut Lines) -> Option<Typed>
+    requires { Given ctx.now side.now at None × Few side.now × (kind_at side.now at ≡ STRUCT) }
+    ensures { (h : Option Typ) → Inferring ctx.now side.now at h q lines.old result lines.new }
 {
-    let written = rw[at];
-    let name = struct_name(kinds, words, scope, written);
-    let list = at + 1;
-    let count = rw[list];
-    let c = record_of(kinds, words, scope, name, at, q, out, n);
-    if c.ok {
-        let v = values(
-            kinds,
-            words,
-            scope,
-            rk,
-            rw,
-            at + 2,
-            c.next,
-            count,
-            at,
-            q,
-            out,
-            c.n,
-        );
-        let marks = v.marks;
-        let m = missing(kinds, words, c.next, marks, at, q, out, v.n);
-        let typ = bottom_of(33, name);
-        Inferred {
-            ok: true,
-            typ,
-            next: v.next,
-            n: m,
-        }
-    } else {
-        no_type(c.n)
-    }
+    let name = struct_name(ctx, side.words[at]);
+    let count = side.words[at + 1];
+    let fields = record_of(ctx, name, at, q, lines)?;
+    let v = values(ctx, side, at + 2, fields, count, at, q, lines);
+    missing(&ctx.records, fields, &v.marks, at, q, lines);
+    Some(Typed {
+        typ: Typ::bottom(kinds::NAMED, name),
+        next: v.next,
+    })
 }
 
 // The arrays of an iterator beside the inputs of its function, whose list is at a place, lib.rs 1284: E0143.
 #[cycle(inference)]
 fn arrays(
-    kinds: &[u8],
-    words: &[u64],
-    scope: &[u64],
-    rk: &[u8],
-    rw: &[u64],
+    ctx: &Context,
+    side: &Records,
     at: usize,
     list: usize,
     count: u64,
     step: usize,
     q: Spot,
-    out: &mut [u64],
-    n: u64,
-) -> ArraysLeft
-    requires { GivenArrays kinds.now words.now scope.now rk.now rw.now at list count × (length rk.now ≤ 4096) }
-    ensures { (g : GivenArrays kinds.now words.now scope.now rk.now rw.now at list count) → DoneArrays kinds.now words.now scope.now rk.now rw.now at list count step g q out.old n result out.new }
+    lines: &mut Lines,
+) -> Option<ArraysLeft>
+    requires { GivenArrays ctx.now side.now at list count × Few side.now }
+    ensures { (g : GivenArrays ctx.now side.now at list count) → DoneArrays ctx.now side.now at list count step g q lines.old result lines.new }
 {
-    let h = no_hint();
-    let mut kept = kept_none();
+    let mut kept = Kept::new();
     let mut next = at;
     let mut port = list + 1;
-    let mut left = words[list];
-    let mut m = n;
-    let mut i: u64 = 0;
-    while i < count {
-        let a = infer(kinds, words, scope, rk, rw, next, h, q, out, m);
-        if a.ok {
-            let u = a.typ;
-            let p = input_at(kinds, words, port, left);
-            let want = p.typ;
-            let t = take_array(kinds, words, scope, kept, u, p.has, want, step, q, out, a.n);
-            if t.ok {
-                kept = t.kept;
-                next = a.next;
-                port = p.next;
-                left = p.left;
-                m = t.n;
-                i += 1;
-                continue;
+    let mut left = ctx.records.words[list];
+    for _ in 0..count {
+        let a = infer(ctx, side, next, None, q, lines)?;
+        next = a.next;
+        let want = match input_at(&ctx.records, port, left) {
+            Some(i) => {
+                port = i.next;
+                left -= 1;
+                Some(i.typ)
             }
-            return ArraysLeft {
-                ok: false,
-                kept,
-                next: 0,
-                n: t.n,
-            };
-        }
-        return ArraysLeft {
-            ok: false,
-            kept,
-            next: 0,
-            n: a.n,
+            None => None,
         };
+        kept = take_array(ctx, kept, &a.typ, want, step, q, lines)?;
     }
-    ArraysLeft {
-        ok: true,
-        kept,
-        next,
-        n: m,
-    }
+    Some(ArraysLeft { kept, next })
 }
 
 // What an iterator of the function `name` has before its last tests, lib.rs 1233 to 1316: E0140 to E0144. `list` is the list of arrays.
 #[cycle(inference)]
 fn gather(
-    kinds: &[u8],
-    words: &[u64],
-    scope: &[u64],
-    rk: &[u8],
-    rw: &[u64],
+    ctx: &Context,
+    side: &Records,
     list: usize,
     name: u64,
     step: usize,
     q: Spot,
-    out: &mut [u64],
-    n: u64,
-) -> Gathered
-    requires { GivenGather kinds.now words.now scope.now rk.now rw.now list × (length rk.now ≤ 4096) × (name < 512) }
-    ensures { (g : GivenGather kinds.now words.now scope.now rk.now rw.now list) → DoneGather kinds.now words.now scope.now rk.now rw.now list name step g q out.old n result out.new }
+    lines: &mut Lines,
+) -> Option<Gathered>
+    requires { GivenGather ctx.now side.now list × Few side.now × (name < 512) }
+    ensures { (g : GivenGather ctx.now side.now list) → DoneGather ctx.now side.now list name step g q lines.old result lines.new }
 {
-    let c = iterated(kinds, words, scope, name, step, q, out, n);
-    let inputs = c.inputs;
-    let result = c.result;
-    if c.ok {
-        let count = rw[list];
-        let a = arrays(
-            kinds,
-            words,
-            scope,
-            rk,
-            rw,
-            list + 1,
-            inputs,
-            count,
-            step,
-            q,
-            out,
-            c.n,
-        );
-        let kept = a.kept;
-        if a.ok {
-            if kept.even {
-                Gathered {
-                    ok: true,
-                    inputs,
-                    result,
-                    kept,
-                    next: a.next,
-                    n: a.n,
-                }
-            } else {
-                let m = put_line(out, q, a.n, 144, step as u64, NO_NAME);
-                Gathered {
-                    ok: false,
-                    inputs,
-                    result,
-                    kept,
-                    next: 0,
-                    n: m,
-                }
-            }
-        } else {
-            Gathered {
-                ok: false,
-                inputs,
-                result,
-                kept,
-                next: 0,
-                n: a.n,
-            }
-        }
-    } else {
-        let kept = kept_none();
-        Gathered {
-            ok: false,
-            inputs,
-            result,
-            kept,
-            next: 0,
-            n: c.n,
-        }
+    let c = iterated(ctx, name, step, q, lines)?;
+    let count = side.words[list];
+    let a = arrays(ctx, side, list + 1, c.inputs, count, step, q, lines)?;
+    if a.kept.even {
+        return Some(Gathered {
+            inputs: c.inputs,
+            result: c.result,
+            kept: a.kept,
+            next: a.next,
+        });
     }
+    fail(codes::E0144, step, NONE, q, lines)
 }
 
-// A map or a fold with no seed, lib.rs 1318 and 1352.
+// An iterator whose arrays are in the list at another place, and whose seed, if it has one, stands at `seed`, lib.rs 1318 to 1410. A map
+// does not type its seed, a fold types it behind its arrays.
 #[cycle(inference)]
-fn iter(
-    kinds: &[u8],
-    words: &[u64],
-    scope: &[u64],
-    rk: &[u8],
-    rw: &[u64],
+fn iterate(
+    ctx: &Context,
+    side: &Records,
     at: usize,
-    hint: Hint,
+    list: usize,
+    seed: Option<usize>,
     q: Spot,
-    out: &mut [u64],
-    n: u64,
-) -> Inferred
-    requires { Given kinds.now words.now scope.now rk.now rw.now at hint × (length rk.now ≤ 4096) × Kind iterate_kind rk.now at }
-    ensures { Inferring kinds.now words.now scope.now rk.now rw.now at hint q out.old n result out.new }
+    lines: &mut Lines,
+) -> Option<Typed>
+    requires { Given ctx.now side.now at None × Few side.now × ListBehind side.now at seed list }
+    ensures { (h : Option Typ) → Inferring ctx.now side.now at h q lines.old result lines.new }
 {
-    let k = rk[at];
-    let name = rw[at];
-    let list = at + 1;
-    let count = rw[list];
-    let g = gather(kinds, words, scope, rk, rw, list, name, at, q, out, n);
-    if g.ok {
-        let inputs = g.inputs;
-        let result = g.result;
-        let kept = g.kept;
-        if k == 80 {
-            let many = words[inputs];
-            map_rule(many, count, kept, result, at, g.next, q, out, g.n)
-        } else {
-            let f = fold_inputs(kinds, words, scope, inputs, result, at, q, out, g.n);
-            if f.ok {
-                let acc = f.acc;
-                let elem = f.elem;
-                let seed = no_hint();
-                fold_end(
-                    kinds, words, scope, acc, seed, elem, kept, result, at, g.next, q, out, f.n,
-                )
-            } else {
-                no_type(f.n)
-            }
-        }
-    } else {
-        no_type(g.n)
+    let k = side.kinds[at];
+    let g = gather(ctx, side, list, side.words[at], at, q, lines)?;
+    let next = g.next;
+    if k == kinds::MAP || k == kinds::MAP_FROM {
+        let inputs = ctx.records.words[g.inputs];
+        let typ = map_rule(inputs, side.words[list], &g.kept, g.result, at, q, lines)?;
+        return Some(Typed { typ, next });
     }
-}
-
-// A map or a fold with a seed: a map does not type its seed, a fold types it behind its arrays, lib.rs 1380.
-#[cycle(inference)]
-fn iter_from(
-    kinds: &[u8],
-    words: &[u64],
-    scope: &[u64],
-    rk: &[u8],
-    rw: &[u64],
-    at: usize,
-    hint: Hint,
-    q: Spot,
-    out: &mut [u64],
-    n: u64,
-) -> Inferred
-    requires { Given kinds.now words.now scope.now rk.now rw.now at hint × (length rk.now ≤ 4096) × Kind iterate_from_kind rk.now at }
-    ensures { Inferring kinds.now words.now scope.now rk.now rw.now at hint q out.old n result out.new }
-{
-    let k = rk[at];
-    let name = rw[at];
-    let p = at + 1;
-    let list = skip(rk, rw, p);
-    let count = rw[list];
-    let g = gather(kinds, words, scope, rk, rw, list, name, at, q, out, n);
-    if g.ok {
-        let inputs = g.inputs;
-        let result = g.result;
-        let kept = g.kept;
-        if k == 81 {
-            let many = words[inputs];
-            map_rule(many, count, kept, result, at, g.next, q, out, g.n)
-        } else {
-            let f = fold_inputs(kinds, words, scope, inputs, result, at, q, out, g.n);
-            if f.ok {
-                let acc = f.acc;
-                let elem = f.elem;
-                let mut seed = hint_of(acc);
-                let a = infer(kinds, words, scope, rk, rw, p, seed, q, out, f.n);
-                let t = a.typ;
-                seed = Hint {
-                    given: a.ok,
-                    typ: t,
-                };
-                fold_end(
-                    kinds, words, scope, acc, seed, elem, kept, result, at, g.next, q, out, a.n,
-                )
-            } else {
-                no_type(f.n)
-            }
-        }
-    } else {
-        no_type(g.n)
-    }
+    let f = fold_inputs(ctx, g.inputs, &g.result, at, q, lines)?;
+    let start = match seed {
+        Some(p) => infer(ctx, side, p, Some(f.acc), q, lines).map(|a| a.typ),
+        None => None,
+    };
+    let typ = fold_end(ctx, &f.acc, start, &f.elem, &g.kept, g.result, at, q, lines)?;
+    Some(Typed { typ, next })
 }
 
 // The expression at a place, under a hint: `infer_expr_type`, lib.rs 710.
 #[cycle(inference)]
 pub fn infer(
-    kinds: &[u8],
-    words: &[u64],
-    scope: &[u64],
-    rk: &[u8],
-    rw: &[u64],
+    ctx: &Context,
+    side: &Records,
     at: usize,
-    hint: Hint,
+    hint: Option<Typ>,
     q: Spot,
-    out: &mut [u64],
-    n: u64,
-) -> Inferred
-    requires { Given kinds.now words.now scope.now rk.now rw.now at hint × (length rk.now ≤ 4096) }
-    ensures { Inferring kinds.now words.now scope.now rk.now rw.now at hint q out.old n result out.new }
+    lines: &mut Lines,
+) -> Option<Typed>
+    requires { Given ctx.now side.now at hint × Few side.now }
+    ensures { Inferring ctx.now side.now at hint q lines.old result lines.new }
 {
-    let k = rk[at];
-    if k < 44 {
-        let t = literal(kinds, words, scope, rk, rw, at, hint);
-        let next = at + 1;
-        return literal_rule(t, at, next, q, out, n);
-    }
-    match k {
-        44 => variable(kinds, words, scope, rk, rw, at, hint, q, out, n),
-        45 => unary(kinds, words, scope, rk, rw, at, hint, q, out, n),
-        46 => unary(kinds, words, scope, rk, rw, at, hint, q, out, n),
-        67 => ite(kinds, words, scope, rk, rw, at, hint, q, out, n),
-        68 => infer(kinds, words, scope, rk, rw, at + 1, hint, q, out, n),
-        69 => both(kinds, words, scope, rk, rw, at + 1, at, 92, hint, q, out, n),
-        70 => call(kinds, words, scope, rk, rw, at, hint, q, out, n),
-        71 => field(kinds, words, scope, rk, rw, at, hint, q, out, n),
-        72 => index(kinds, words, scope, rk, rw, at, hint, q, out, n),
-        73 => tuple(kinds, words, scope, rk, rw, at, hint, q, out, n),
-        74 => array(kinds, words, scope, rk, rw, at, hint, q, out, n),
-        75 => build(kinds, words, scope, rk, rw, at, hint, q, out, n),
-        76 => cast(kinds, words, scope, rk, rw, at, hint, q, out, n),
-        77 => when(kinds, words, scope, rk, rw, at, hint, q, out, n),
-        78 => when(kinds, words, scope, rk, rw, at, hint, q, out, n),
-        79 => merge(kinds, words, scope, rk, rw, at, hint, q, out, n),
-        80 => iter(kinds, words, scope, rk, rw, at, hint, q, out, n),
-        81 => iter_from(kinds, words, scope, rk, rw, at, hint, q, out, n),
-        82 => iter(kinds, words, scope, rk, rw, at, hint, q, out, n),
-        83 => iter_from(kinds, words, scope, rk, rw, at, hint, q, out, n),
-        _ => binary(kinds, words, scope, rk, rw, at, hint, q, out, n),
+    match side.kinds[at] {
+        ..=kinds::CHAR_LITERAL => literal(ctx, side, at, hint, q, lines),
+        kinds::VARIABLE => variable(ctx, side, at, q, lines),
+        kinds::NOT | kinds::MINUS => unary(ctx, side, at, hint, q, lines),
+        kinds::IF => ite(ctx, side, at, hint, q, lines),
+        kinds::PRE => infer(ctx, side, at + 1, hint, q, lines),
+        kinds::ARROW => both(ctx, side, at + 1, at, codes::E0092, hint, q, lines),
+        kinds::CALL => call(ctx, side, at, q, lines),
+        kinds::FIELD => field(ctx, side, at, q, lines),
+        kinds::INDEX => index(ctx, side, at, q, lines),
+        kinds::TUPLE => tuple(ctx, side, at, q, lines),
+        kinds::ARRAY => array(ctx, side, at, hint, q, lines),
+        kinds::STRUCT => build(ctx, side, at, q, lines),
+        kinds::CAST => cast(ctx, side, at, q, lines),
+        kinds::WHEN_TRUE | kinds::WHEN_FALSE => when(ctx, side, at, hint, q, lines),
+        kinds::MERGE => merge(ctx, side, at, hint, q, lines),
+        kinds::MAP | kinds::FOLD => iterate(ctx, side, at, at + 1, None, q, lines),
+        kinds::MAP_FROM | kinds::FOLD_FROM => {
+            let seed = at + 1;
+            let list = skip(side, seed);
+            iterate(ctx, side, at, list, Some(seed), q, lines)
+        }
+        _ => binary(ctx, side, at, hint, q, lines),
     }
 }

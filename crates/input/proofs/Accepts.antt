@@ -6,7 +6,8 @@ use native.Mathlib.Omega.{arith}
 use mathlib.Core.Path.{◌≡◌, refl, ap, sym, subst, ◌∙◌}
 use mathlib.Core.Bool.{Bool, true, false, ◌&&◌, and-eq-true_iff}
 use mathlib.Core.List.{List, []}
-use mathlib.Core.Option.{Option, none, some}
+use mathlib.Core.Option as maybe
+use Rattle.std.proofs.Common.{None, Some, Ok, Err}
 use lib.Dec.{eqb, leb}
 use lib.ListN.{length}
 use borrow.Author.Tests.{eqb-true, leb-true}
@@ -21,7 +22,6 @@ use Rattle.demands.proofs.Reading.{spelled_tidy, whole_project}
 use Rattle.records.proofs.Spells.{spell_kinds, spell_past}
 use Rattle.input.specs.Input.{passing, judged}
 use Rattle.input.specs.Accepted.{Accepts}
-use Rattle.input.specs.declared.Input.TheVariants.{Accepted, Blank, Refused}
 use Rattle.lustre.specs.declared.Refusal.{Refusal}
 use Rattle.lustre.proofs.Lowest.{passes}
 use Rattle.input.proofs.Shallow.{project_shallow}
@@ -30,45 +30,45 @@ use Rattle.input.proofs.Numbers.{short_names, numbered, ranged, same_spelling}
 -- what a call on accepted, on blank and on refused input goes by
 module _ (kinds words text : List ℕ) (work : ℕ) where
   -- accepted input: nothing is refused, it is not blank, and there are so many names
-  pub accepted : (n : ℕ) → judged kinds words text work ≡ Accepted n
-      → (lowest kinds words text work ≡ none) × (is_blank kinds text ≡ false) × (length (names_of text) ≡ n)
+  pub accepted : (n : ℕ) → judged kinds words text work ≡ Ok (Some n)
+      → (lowest kinds words text work ≡ maybe.none) × (is_blank kinds text ≡ false) × (length (names_of text) ≡ n)
   unfolding judged passing unless_refused
   accepted n = go (lowest kinds words text work) (is_blank kinds text)
     where
-      go : (o : Option Refusal) (b : Bool) → unless_refused o Refused (if b then Blank else Accepted (length (names_of text))) ≡ Accepted n
-          → (o ≡ none) × (b ≡ false) × (length (names_of text) ≡ n)
-      go none true q = (refl, cc, cc)
-      go none false q = (refl, refl, cc)
-      go (some r) b q = (cc, cc, cc)
+      go : (o : maybe.Option Refusal) (b : Bool) → unless_refused o Err (if b then Ok None else Ok (Some (length (names_of text)))) ≡ Ok (Some n)
+          → (o ≡ maybe.none) × (b ≡ false) × (length (names_of text) ≡ n)
+      go maybe.none true q = (refl, cc, cc)
+      go maybe.none false q = (refl, refl, cc)
+      go (maybe.some r) b q = (cc, cc, cc)
 
   -- a blank file: nothing is refused
-  pub blank : judged kinds words text work ≡ Blank → (lowest kinds words text work ≡ none) × (is_blank kinds text ≡ true)
+  pub blank : judged kinds words text work ≡ Ok None → (lowest kinds words text work ≡ maybe.none) × (is_blank kinds text ≡ true)
   unfolding judged passing unless_refused
   blank = go (lowest kinds words text work) (is_blank kinds text)
     where
-      go : (o : Option Refusal) (b : Bool) → unless_refused o Refused (if b then Blank else Accepted (length (names_of text))) ≡ Blank
-          → (o ≡ none) × (b ≡ true)
-      go none true q = (refl, refl)
-      go none false q = (refl, cc)
-      go (some r) b q = (cc, cc)
+      go : (o : maybe.Option Refusal) (b : Bool) → unless_refused o Err (if b then Ok None else Ok (Some (length (names_of text)))) ≡ Ok None
+          → (o ≡ maybe.none) × (b ≡ true)
+      go maybe.none true q = (refl, refl)
+      go maybe.none false q = (refl, cc)
+      go (maybe.some r) b q = (cc, cc)
 
   -- refused input: its refusal is given first
-  pub refused : (r : Refusal) → judged kinds words text work ≡ Refused r → lowest kinds words text work ≡ some r
+  pub refused : (r : Refusal) → judged kinds words text work ≡ Err r → lowest kinds words text work ≡ maybe.some r
   unfolding judged passing unless_refused
   refused r = go (lowest kinds words text work) (is_blank kinds text)
     where
-      go : (o : Option Refusal) (b : Bool) → unless_refused o Refused (if b then Blank else Accepted (length (names_of text))) ≡ Refused r → o ≡ some r
-      go none true q = cc
-      go none false q = cc
-      go (some s) b q = let z : s ≡ r = cc in ap some z
+      go : (o : maybe.Option Refusal) (b : Bool) → unless_refused o Err (if b then Ok None else Ok (Some (length (names_of text)))) ≡ Err r → o ≡ maybe.some r
+      go maybe.none true q = cc
+      go maybe.none false q = cc
+      go (maybe.some s) b q = let z : s ≡ r = cc in ap maybe.some z
 
 -- a test that refuses where it is false is true where it does not refuse
-held : (t : Bool) → ◌≡◌ {A = Option ℕ} (if t then none else some 0) none → t ≡ true
+held : (t : Bool) → ◌≡◌ {A = maybe.Option ℕ} (if t then maybe.none else maybe.some 0) maybe.none → t ≡ true
 held true q = refl
 held false q = cc
 
 -- where refusal 1 passes there are as many words as kinds, and few of both
-sized : (ks ws text : List ℕ) → bad_sizes ks ws text ≡ none → (length ks ≡ length ws) × (length ks ≤ 4096)
+sized : (ks ws text : List ℕ) → bad_sizes ks ws text ≡ maybe.none → (length ks ≡ length ws) × (length ks ≤ 4096)
 unfolding bad_sizes
 sized ks ws text q =
     let all = (and-eq-true_iff (eqb (length ks) (length ws) && leb (length ks) 4096) (leb (length text) 16384)).0 (held _ q) in

@@ -1,7 +1,7 @@
 -- What acceptance gives: the facts of accepted input that later contracts use, and the theorem's statement that accepted input has them.
 -- Assumes nothing: these are definitions and a statement, proved in proofs/.
 use Prim.Native.Nat.{Ordering}
-use Rattle.std.specs.Prelude.{ℕ, ◌≤◌, ◌<◌, ◌≡◌, true, List, length, get_or}
+use Rattle.std.specs.Prelude.{ℕ, ◌≤◌, ◌<◌, ◌≡◌, true, List, length, get_or, Some, Ok}
 use Rattle.lustre.specs.Name.{Name, order}
 use Rattle.lustre.specs.Names.{names_of, name_at}
 use Rattle.lustre.specs.Records.{word_class, in_class}
@@ -11,7 +11,6 @@ use Rattle.demands.specs.Naming.{Named}
 use Rattle.records.specs.Stands.{Stands}
 use Rattle.input.specs.Input.{judged}
 use Rattle.input.specs.Depths.{ShallowProject}
-use Rattle.input.specs.declared.Input.TheVariants as Answers
 
 -- A numbering of names: a text for every number, each number told by its text, in byte order below the count. Numbers past the last
 -- name have texts that are no names.
@@ -35,4 +34,4 @@ pub record Accepted (ks ws text : List ℕ) : Type 0 where
 
 -- accepted input has all of this
 abbrev pub Accepts : Type 0
-Accepts = (ks ws text : List ℕ) (work n : ℕ) → judged ks ws text work ≡ Answers.Accepted n → Accepted ks ws text
+Accepts = (ks ws text : List ℕ) (work n : ℕ) → judged ks ws text work ≡ Ok (Some n) → Accepted ks ws text

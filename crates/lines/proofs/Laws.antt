@@ -21,6 +21,7 @@ use Rattle.lustre.specs.Line as Report
 use Rattle.lustre.specs.declared.Line.{Line}
 use Rattle.lines.specs.Lines.{words, line_in, room, put, up, puts, ups, window, line_at, line_of, Put, Wrote, Noted, Said}
 use Rattle.lines.specs.declared.Spot.{Spot}
+use Rattle.lines.specs.declared.Lines.{Lines}
 
 -- ---- one line
 
@@ -186,85 +187,85 @@ module _ (o : List ℕ) (first : ℕ) (ls : List Line) (fits : first + room o < 
 
 -- ---- lines written in sequence
 
-module _ {first : ℕ} where
-  -- no line
-  pub wrote_none : {o : List ℕ} {n : ℕ} → Wrote first [] o n n o
-  unfolding puts ups
-  wrote_none = record { out = refl; number = refl }
+-- no line
+pub wrote_none : {l : Lines} → Wrote [] l l
+unfolding puts ups
+wrote_none = record { same = refl; first = refl; out = refl; number = refl }
 
-  -- lines after lines
-  pub wrote_append : {ls ms : List Line} {o o₁ o₂ : List ℕ} {n m k : ℕ}
-      → Wrote first ls o n m o₁ → Wrote first ms o₁ m k o₂ → Wrote first (ls ++ ms) o n k o₂
-  wrote_append {ls} {ms} {o} {n = n} f g = record {
-    out = g.out ∙ rw (f.out, f.number) (puts_append o first n ls ms);
-    number = g.number ∙ rw f.number (ups_append n ls ms);
-  }
+-- lines after lines
+pub wrote_append : {ls ms : List Line} {l l₁ l₂ : Lines} → Wrote ls l l₁ → Wrote ms l₁ l₂ → Wrote (ls ++ ms) l l₂
+wrote_append {ls} {ms} {l} f g = record {
+  same = g.same ∙ f.same;
+  first = g.first ∙ f.first;
+  out = g.out ∙ rw (f.out, f.number, f.first) (puts_append l.out.now l.first l.count ls ms);
+  number = g.number ∙ rw f.number (ups_append l.count ls ms);
+}
 
 -- ---- what is said
 
 module _ {num : Name → ℕ} {q : Spot} where
   -- no note
-  pub noted_none : {o : List ℕ} {n : ℕ} → Noted num q [] o n n o
+  pub noted_none : {l : Lines} → Noted num q [] l l
   noted_none = record { wrote = wrote_none }
 
   -- notes after notes
-  pub noted_append : {ns ms : List Note} {o o₁ o₂ : List ℕ} {n m k : ℕ}
-      → Noted num q ns o n m o₁ → Noted num q ms o₁ m k o₂ → Noted num q (ns ++ ms) o n k o₂
+  pub noted_append : {ns ms : List Note} {l l₁ l₂ : Lines}
+      → Noted num q ns l l₁ → Noted num q ms l₁ l₂ → Noted num q (ns ++ ms) l l₂
   noted_append {ns} {ms} f g = record { wrote = rw (map-append (line_of num q) ns ms) (wrote_append f.wrote g.wrote) }
 
   -- a value
-  pub said_return : {A : Type 0} {o : List ℕ} {n : ℕ} (a : A) → Said num q (return a) (some a) o n n o
+  pub said_return : {A : Type 0} {l : Lines} (a : A) → Said num q (return a) (some a) l l
   unfolding return
   said_return a = record { value = refl; noted = noted_none }
 
   -- a test that passes
-  pub said_pass : {o : List ℕ} {n : ℕ} {b : Bool} (x : Note) → b ≡ true → Said num q (require b x) (some tt) o n n o
+  pub said_pass : {l : Lines} {b : Bool} (x : Note) → b ≡ true → Said num q (require b x) (some tt) l l
   unfolding require
   said_pass x h = rw h (record { value = refl; noted = noted_none })
 
-module _ {num : Name → ℕ} {q : Spot} {o o' : List ℕ} {n m : ℕ} where
+module _ {num : Name → ℕ} {q : Spot} {l l' : Lines} where
   -- the line of a note
-  noted_one : (x : Note) → Put q x.code (or_none x.step) (or_none (map num x.name)) o n m o' → Noted num q (x ∷ []) o n m o'
+  noted_one : (x : Note) → Put q x.code (or_none x.step) (or_none (map num x.name)) l l' → Noted num q (x ∷ []) l l'
   unfolding puts ups line_of
-  noted_one x f = record { wrote = record { out = f.out; number = f.number } }
+  noted_one x f = record { wrote = record { same = f.same; first = f.first; out = f.out; number = f.number } }
 
   -- the line of a note at a step
-  pub noted_plain : {c at : ℕ} → Put q c at no_value o n m o' → Noted num q (plain at c ∷ []) o n m o'
+  pub noted_plain : {c at : ℕ} → Put q c at no_value l l' → Noted num q (plain at c ∷ []) l l'
   unfolding or_none
   noted_plain {c} {at} f = noted_one (plain at c) f
 
   -- the line of a note at a step with a name
-  pub noted_named : {c at w : ℕ} (x : Name) → num x ≡ w → Put q c at w o n m o' → Noted num q (named at c x ∷ []) o n m o'
+  pub noted_named : {c at w : ℕ} (x : Name) → num x ≡ w → Put q c at w l l' → Noted num q (named at c x ∷ []) l l'
   unfolding or_none
   noted_named {c} {at} x e f = noted_one (named at c x) (rw e f)
 
   -- the line of a note with no step
-  pub noted_bare : {c : ℕ} → Put q c no_value no_value o n m o' → Noted num q (bare c ∷ []) o n m o'
+  pub noted_bare : {c : ℕ} → Put q c no_value no_value l l' → Noted num q (bare c ∷ []) l l'
   unfolding or_none
   noted_bare {c} f = noted_one (bare c) f
 
   -- the line of a note with no step and a name
-  pub noted_about : {c w : ℕ} (x : Name) → num x ≡ w → Put q c no_value w o n m o' → Noted num q (about c x ∷ []) o n m o'
+  pub noted_about : {c w : ℕ} (x : Name) → num x ≡ w → Put q c no_value w l l' → Noted num q (about c x ∷ []) l l'
   unfolding or_none
   noted_about {c} x e f = noted_one (about c x) (rw e f)
 
   -- a note, and no value
-  pub said_fail : {A : Type 0} {x : Note} → Noted num q (x ∷ []) o n m o' → Said {A = A} num q (fail x) none o n m o'
+  pub said_fail : {A : Type 0} {x : Note} → Noted num q (x ∷ []) l l' → Said {A = A} num q (fail x) none l l'
   unfolding fail
   said_fail f = record { value = refl; noted = f }
 
   -- a test that does not pass
-  pub said_refuse : {b : Bool} {x : Note} → b ≡ false → Noted num q (x ∷ []) o n m o' → Said num q (require b x) none o n m o'
+  pub said_refuse : {b : Bool} {x : Note} → b ≡ false → Noted num q (x ∷ []) l l' → Said num q (require b x) none l l'
   unfolding require
   said_refuse h f = rw h (record { value = refl; noted = f })
 
   -- notes on the way
-  pub said_add : {ns ms : List Note} → ns ≡ ms → Noted num q ms o n m o' → Said num q (add ns) (some tt) o n m o'
+  pub said_add : {ns ms : List Note} → ns ≡ ms → Noted num q ms l l' → Said num q (add ns) (some tt) l l'
   unfolding add
   said_add e f = rw e (record { value = refl; noted = f })
 
   -- a value or none, whichever it was
-  pub said_try : {A : Type 0} {s : Out A} {v : Option A} → Said num q s v o n m o' → Said num q (try s) (some v) o n m o'
+  pub said_try : {A : Type 0} {s : Out A} {v : Option A} → Said num q s v l l' → Said num q (try s) (some v) l l'
   unfolding try
   said_try d = record { value = ap (λ (v : Option _). some v) d.value; noted = d.noted }
 
@@ -279,24 +280,24 @@ module _ {A B : Type 0} (s : Out A) (k : A → Out B) where
   unfolding ◌>>=◌
   bind_some a e = rw (e, ◌>>=◌)
 
-module _ {A B : Type 0} {num : Name → ℕ} {q : Spot} {s : Out A} {v : Option A} {o o₁ : List ℕ} {n m : ℕ} where
+module _ {A B : Type 0} {num : Name → ℕ} {q : Spot} {s : Out A} {v : Option A} {l l₁ : Lines} where
   -- no value: what would follow is not asked
-  pub said_stop : (k : A → Out B) → v ≡ none → Said num q s v o n m o₁ → Said num q (s >>= k) none o n m o₁
+  pub said_stop : (k : A → Out B) → v ≡ none → Said num q s v l l₁ → Said num q (s >>= k) none l l₁
   said_stop k h d = rw (bind_none s k (sym d.value ∙ h)) (record { value = refl; noted = d.noted })
 
   -- a value: what follows goes on with it
-  pub said_go : (k : A → Out B) {w : Option B} {o₂ : List ℕ} {l : ℕ} (a : A)
-      → v ≡ some a → Said num q s v o n m o₁ → Said num q (k a) w o₁ m l o₂ → Said num q (s >>= k) w o n l o₂
+  pub said_go : (k : A → Out B) {w : Option B} {l₂ : Lines} (a : A)
+      → v ≡ some a → Said num q s v l l₁ → Said num q (k a) w l₁ l₂ → Said num q (s >>= k) w l l₂
   said_go k a h d f = rw (bind_some s k a (sym d.value ∙ h)) (record { value = f.value; noted = noted_append d.noted f.noted })
 
   -- the same where what would follow takes no value
-  pub said_halt : (k : Out B) → v ≡ none → Said num q s v o n m o₁ → Said num q (s >> k) none o n m o₁
+  pub said_halt : (k : Out B) → v ≡ none → Said num q s v l l₁ → Said num q (s >> k) none l l₁
   unfolding ◌>>◌
   said_halt k h d = said_stop (λ _. k) h d
 
   -- the same where what follows takes no value
-  pub said_then : {k : Out B} {w : Option B} {o₂ : List ℕ} {l : ℕ} (a : A)
-      → v ≡ some a → Said num q s v o n m o₁ → Said num q k w o₁ m l o₂ → Said num q (s >> k) w o n l o₂
+  pub said_then : {k : Out B} {w : Option B} {l₂ : Lines} (a : A)
+      → v ≡ some a → Said num q s v l l₁ → Said num q k w l₁ l₂ → Said num q (s >> k) w l l₂
   unfolding ◌>>◌
   said_then {k} a h d f = said_go (λ _. k) a h d f
 

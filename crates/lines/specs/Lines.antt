@@ -10,6 +10,7 @@ use Rattle.lustre.specs.Line.{Note, Out}
 use Rattle.lustre.specs.Answer.{or_none}
 use Rattle.lustre.specs.declared.Line.{Line}
 use Rattle.lines.specs.declared.Spot.{Spot}
+use Rattle.lines.specs.declared.Lines.{Lines}
 
 -- the six words of a line
 unfoldable pub words : Line → List ℕ
@@ -60,21 +61,25 @@ line_at q code step name = record { code = code; place = q.place; number = q.num
 unfoldable pub line_of : (Name → ℕ) → Spot → Note → Line
 line_of num q x = line_at q x.code (or_none x.step) (or_none (Option.map num x.name))
 
--- the count m and the buffer o' are n and o with one line at the spot q
-pub record Put (q : Spot) (code step name : ℕ) (o : List ℕ) (n m : ℕ) (o' : List ℕ) : Type 0 where
-  pub out : o' ≡ put o q.first n (line_at q code step name)
-  pub number : m ≡ up n
+-- l' is l with one line at the spot q; it has the same buffer
+pub record Put (q : Spot) (code step name : ℕ) (l l' : Lines) : Type 0 where
+  pub same : l'.out.ghost_name ≡ l.out.ghost_name
+  pub first : l'.first ≡ l.first
+  pub out : l'.out.now ≡ put l.out.now l.first l.count (line_at q code step name)
+  pub number : l'.count ≡ up l.count
 
--- the count m and the buffer o' are n and o with the lines ls
-pub record Wrote (first : ℕ) (ls : List Line) (o : List ℕ) (n m : ℕ) (o' : List ℕ) : Type 0 where
-  pub out : o' ≡ puts o first n ls
-  pub number : m ≡ ups n ls
+-- l' is l with the lines ls
+pub record Wrote (ls : List Line) (l l' : Lines) : Type 0 where
+  pub same : l'.out.ghost_name ≡ l.out.ghost_name
+  pub first : l'.first ≡ l.first
+  pub out : l'.out.now ≡ puts l.out.now l.first l.count ls
+  pub number : l'.count ≡ ups l.count ls
 
--- the count m and the buffer o' are n and o with the notes ns at the spot q
-pub record Noted (num : Name → ℕ) (q : Spot) (ns : List Note) (o : List ℕ) (n m : ℕ) (o' : List ℕ) : Type 0 where
-  pub wrote : Wrote q.first (map (line_of num q) ns) o n m o'
+-- l' is l with the notes ns at the spot q
+pub record Noted (num : Name → ℕ) (q : Spot) (ns : List Note) (l l' : Lines) : Type 0 where
+  pub wrote : Wrote (map (line_of num q) ns) l l'
 
--- the code's value v, count m and buffer o' are what s says at the spot q
-pub record Said {A : Type 0} (num : Name → ℕ) (q : Spot) (s : Out A) (v : Option A) (o : List ℕ) (n m : ℕ) (o' : List ℕ) : Type 0 where
+-- the code's value v and the lines l' are what s says at the spot q
+pub record Said {A : Type 0} (num : Name → ℕ) (q : Spot) (s : Out A) (v : Option A) (l l' : Lines) : Type 0 where
   pub value : v ≡ s.0
-  pub noted : Noted num q s.1 o n m o'
+  pub noted : Noted num q s.1 l l'

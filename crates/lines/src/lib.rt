@@ -1,49 +1,65 @@
-// The line buffer that every checking function writes to: `out: &mut [u64]`, six words a line, in the order of the fields of `lustre::Line`.
-// The number of lines so far is handed in and the number after is returned; it stays at 2^64 - 1. `out` is a window on all lines: a line
-// outside it is counted and not stored, so that the same functions serve a whole report and a batch of it.
+// The lines that every checking function writes: six words each, in the order of the fields of `lustre::Line`, in a buffer that is lent.
+// The buffer is a window on all lines: a line outside it is counted and not stored, so that the same functions serve a whole report and a
+// batch of it.
 #![tactic(auto)]
 
-ghost use Rattle.std.specs.Prelude.{◌≡◌};
-ghost use Rattle.lines.specs.Lines.{up, Put};
+ghost use Rattle.std.specs.Prelude.{◌≡◌, false};
+ghost use Rattle.lines.specs.Lines.{Put};
 
-// What is constant in one equation: a line's place, number and equation, the number of the line that goes to place 0 of the buffer,
-// and whether the node is a function.
+use lustre::NONE;
+
+// What is constant in one equation: a line's place, number and equation, and whether the node is a function.
 #[derive(Clone, Copy)]
 pub struct Spot {
     pub place: u64,
     pub number: u64,
     pub equation: u64,
-    pub first: u64,
     pub function: bool,
 }
 
-// The number after n, which stays at the largest.
-fn next_number(n: u64) -> u64
-    ensures { result ≡ up n }
-{
-    if n < 0xffff_ffff_ffff_ffff { n + 1 } else { n }
+impl Spot {
+    // A spot with no equation and no function, for the lines on a declaration as a whole.
+    pub fn about(place: u64, number: u64) -> Spot
+        ensures { (result.place ≡ place) × (result.number ≡ number) × (result.equation ≡ 18_446_744_073_709_551_615) × (result.function ≡ false) }
+    {
+        Spot {
+            place,
+            number,
+            equation: NONE,
+            function: false,
+        }
+    }
 }
 
-// Stores line number n if it is in the window, and returns the number after n.
-pub fn put_line(out: &mut [u64], q: Spot, n: u64, code: u64, step: u64, name: u64) -> u64
-    ensures { Put q code step name out.old n result out.new }
-{
-    let room = out.len() as u64 / 6;
-    let m = next_number(n);
-    let first = q.first;
-    if n < first {
-        return m;
+// The words of the lines that are lent, the number of the line that goes to their first place, and the number of lines so far, which stays
+// at 2^64 - 1.
+#[derive(Drop)]
+pub struct Lines<'a> {
+    pub out: &'a mut [u64],
+    pub first: u64,
+    pub count: u64,
+}
+
+impl<'a> Lines<'a> {
+    // Stores a line if it is in the window, and counts it.
+    pub fn put(&mut self, q: Spot, code: u64, step: u64, name: u64)
+        ensures { Put q code step name self.old self.new }
+    {
+        let n = self.count;
+        let room = self.out.len() as u64 / 6;
+        self.count = n.saturating_add(1);
+        if n < self.first {
+            return;
+        }
+        let k = n - self.first;
+        if k < room {
+            let i = k as usize * 6;
+            self.out[i] = code;
+            self.out[i + 1] = q.place;
+            self.out[i + 2] = q.number;
+            self.out[i + 3] = q.equation;
+            self.out[i + 4] = step;
+            self.out[i + 5] = name;
+        }
     }
-    let k = n - first;
-    if k < room {
-        let i = k as usize * 6;
-        out[i] = code;
-        out[i + 1] = q.place;
-        out[i + 2] = q.number;
-        out[i + 3] = q.equation;
-        out[i + 4] = step;
-        out[i + 5] = name;
-        return m;
-    }
-    m
 }

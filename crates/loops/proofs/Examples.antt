@@ -14,7 +14,7 @@ use Rattle.lustre.specs.Project.{Equation}
 use Rattle.lustre.specs.Computes.{computes}
 use Rattle.demands.proofs.Sets.{mem_in}
 use Rattle.demands.proofs.Orders.{is_test}
-use Rattle.loops.specs.Rows.{bit, has, passing, row_from, row, Connected}
+use Rattle.loops.specs.Rows.{bit, has, passing, row_from, row, Connected, Joined}
 use Rattle.loops.specs.Search.{Shows}
 use Rattle.loops.proofs.Stores.{zeros_empty}
 
@@ -28,20 +28,25 @@ pub second_row : row (1 ∷ 0 ∷ 0 ∷ 0 ∷ 0 ∷ 0 ∷ 0 ∷ 0 ∷ 3 ∷ 0 �
 unfolding row_from passing has bit
 second_row = refl
 
--- The equation x = x in a fresh graph: its one edge and its one defined name, each set by `connect`.
+-- The equation x = x in a fresh graph: its one edge and its one defined name, each by `insert` in a new set.
 abbrev x : Name
 x = 120 ∷ []
 
 abbrev x_is_x : List Equation
 x_is_x = record { lhs = x ∷ []; rhs = var x } ∷ []
 
--- after one `connect` of 0 and 0 in zeros a row has the name 0 alone
-only_zero : (n : ℕ) (ws : List ℕ) (b : ℕ) → b < 512 → Connected (replicate n 0) 0 0 ws → has ws 0 b ≡ eqb b 0
-only_zero n ws b h c = c.edges 0 b h ∙ ap (λ (t : Bool). t || eqb b 0) (zeros_empty n 0 b)
+-- after one `insert` of 0 a new set has the name 0 alone
+only_zero : (ws : List ℕ) (b : ℕ) → b < 512 → Connected (replicate 8 0) 0 0 ws → has ws 0 b ≡ eqb b 0
+only_zero ws b h c = c.edges 0 b h ∙ ap (λ (t : Bool). t || eqb b 0) (zeros_empty 8 0 b)
 
-pub shown_example : (graph defs : List ℕ) → Connected (replicate 4096 0) 0 0 graph → Connected (replicate 8 0) 0 0 defs → Shows x_is_x (λ _. x) 1 graph defs
+-- and so has row 0 of zeros that it is joined to
+edge_zero : (graph read : List ℕ) (b : ℕ) → b < 512 → Connected (replicate 8 0) 0 0 read → Joined (replicate 4096 0) 0 read graph → has graph 0 b ≡ eqb b 0
+edge_zero graph read b h c j = j.edges 0 b h ∙ ap (λ (t : Bool). t || has read 0 b) (zeros_empty 4096 0 b) ∙ only_zero read b h c
+
+pub shown_example : (graph read defs : List ℕ) → Connected (replicate 8 0) 0 0 read → Joined (replicate 4096 0) 0 read graph → Connected (replicate 8 0) 0 0 defs
+    → Shows x_is_x (λ _. x) 1 graph defs
 unfolding computes
-shown_example graph defs c d =
+shown_example graph read defs c j d =
     record {
       few = omega arith;
       increasing = λ i j h k. absurd (omega arith);
@@ -49,11 +54,11 @@ shown_example graph defs c d =
       edges = λ a b h k.
           let at : a ≡ 0 = omega arith in
           let to : b ≡ 0 = omega arith in
-          ap (λ (z : ℕ). has graph z b) at ∙ only_zero 4096 graph b (omega arith) c ∙ eq-eqb b 0 to;
+          ap (λ (z : ℕ). has graph z b) at ∙ edge_zero graph read b (omega arith) c j ∙ eq-eqb b 0 to;
       edges_within = λ a b h k e.
           let at : a ≡ 0 = omega arith in
-          let to : b ≡ 0 = eqb-true b 0 (sym (ap (λ (z : ℕ). has graph z b) at ∙ only_zero 4096 graph b k c) ∙ e) in
+          let to : b ≡ 0 = eqb-true b 0 (sym (ap (λ (z : ℕ). has graph z b) at ∙ edge_zero graph read b k c j) ∙ e) in
           omega arith;
-      starts = λ a h. let at : a ≡ 0 = omega arith in only_zero 8 defs a (omega arith) d ∙ eq-eqb a 0 at;
-      starts_within = λ a h e. let at : a ≡ 0 = eqb-true a 0 (sym (only_zero 8 defs a h d) ∙ e) in omega arith;
+      starts = λ a h. let at : a ≡ 0 = omega arith in only_zero defs a (omega arith) d ∙ eq-eqb a 0 at;
+      starts_within = λ a h e. let at : a ≡ 0 = eqb-true a 0 (sym (only_zero defs a h d) ∙ e) in omega arith;
     }

@@ -1,55 +1,34 @@
--- Where the loop that a path ends with starts: the steps of `first`.
+-- Where the loop that a path ends with starts.
 -- Assumes nothing.
-use Prim.Native.Nat.{ℕ, suc, ◌+◌, ◌-◌, ◌<◌}
+use Rattle.std.specs.Prelude.{Option, Some, MatchOption}
+use Rattle.std.specs.List.{HoldsAt, AllWithin}
+use Prim.Native.Nat.{ℕ, zero, suc, ◌-◌, ◌<◌, zero-le}
 use native.Mathlib.Omega.{arith}
-use native.Mathlib.Numerals.{add-one}
-use mathlib.Core.Path.{◌≡◌, refl, sym, ◌∙◌, ap}
-use mathlib.Core.Logic.{⊎_elim}
-use mathlib.Core.List.{List, ◌∷◌}
-use lib.ListN.{get_or, take, drop}
-use lib.Seq.{drop-cons, get_or-take, length-take-le}
+use mathlib.Core.Path.{◌≡◌, sym, ◌∙◌}
+use mathlib.Core.List.{List, [], ◌∷◌}
+use lib.ListN.{length, get_or, take, drop}
+use lib.Seq.{length-take-le}
 use lib.Dec.{eqb}
 use borrow.Author.Tests.{eq-eqb, ne_eqb}
 use Rattle.lustre.specs.Walk.{from_first}
 use Rattle.demands.proofs.Sets.{from_eq, from_ne}
 use Rattle.loops.specs.Steps.{CanPlace, Places}
-use Rattle.loops.proofs.Rows.{same_or}
 
--- what the loop of `first` keeps: the path's last name does not stand before p
-pub record Seeking (path : List ℕ) (end p : ℕ) : Type 0 where
-  pub below : p < end
-  pub same : from_first eqb (get_or path (end - 1) 0) (drop p (take end path)) ≡ from_first eqb (get_or path (end - 1) 0) (take end path)
+-- the part from the first place of a number on
+pub from_place : (x : ℕ) (l : List ℕ) (i : ℕ) → i < length l → get_or l i 0 ≡ x → ((k : ℕ) → k < i → get_or l k 0 ≡ x → ⊥) → drop i l ≡ from_first eqb x l
+from_place x [] i b e n = absurd (omega arith)
+from_place x (y ∷ l) zero b e n = sym (from_eq eqb x y l (eq-eqb x y (sym e)))
+from_place x (y ∷ l) (suc i) b e n =
+    from_place x l i (omega arith) e (λ k h. n (suc k) (omega arith)) ∙ sym (from_ne eqb x y l (ne_eqb x y (λ q. n 0 (omega arith) (sym q))))
 
-pub seeking_start : {path : List ℕ} {end : ℕ} → CanPlace path end → Seeking path end 0
-seeking_start can = record { below = can.some; same = refl }
-
-module _ {path : List ℕ} {end : ℕ} (can : CanPlace path end) {p : ℕ} (h : Seeking path end p) where
-  -- what stands from p on
-  front_at : drop p (take end path) ≡ get_or path p 0 ∷ drop (p + 1) (take end path)
-  front_at =
-      drop-cons (take end path) p 0 (omega (arith, length-take-le end path can.within, h.below))
-      ∙ ap (λ (x : ℕ). x ∷ drop (suc p) (take end path)) (get_or-take end path p 0 h.below)
-      ∙ ap (λ (k : ℕ). get_or path p 0 ∷ drop k (take end path)) (sym (add-one p))
-
-  pub seeking_more : (get_or path p 0 ≡ get_or path (end - 1) 0 → ⊥) → Seeking path end (p + 1)
-  seeking_more n =
-      record {
-        below =
-            ⊎_elim
-            (λ (e : p ≡ end - 1). absurd (n (ap (λ (k : ℕ). get_or path k 0) e)))
-            (λ (e : p ≡ end - 1 → ⊥). omega (arith, h.below))
-            (same_or p (end - 1));
-        same =
-            sym (ap (from_first eqb (get_or path (end - 1) 0)) front_at ∙ from_ne eqb (get_or path (end - 1) 0) (get_or path p 0) (drop (p + 1) (take end path)) (ne_eqb (get_or path (end - 1) 0) (get_or path p 0) (λ e. n (sym e))))
-            ∙ h.same;
-      }
-
-  pub seeking_end : get_or path p 0 ≡ get_or path (end - 1) 0 → Places path end p
-  seeking_end e = record {
-    before = h.below;
-    loop =
-        front_at
-        ∙ sym (from_eq eqb (get_or path (end - 1) 0) (get_or path p 0) (drop (p + 1) (take end path)) (eq-eqb (get_or path (end - 1) 0) (get_or path p 0) (sym e)))
-        ∙ ap (from_first eqb (get_or path (end - 1) 0)) (sym front_at)
-        ∙ h.same;
-  }
+-- the first place of the path's last name is where its loop starts
+pub placed : {path : List ℕ} {end : ℕ} {r : Option ℕ} {start : ℕ} → CanPlace path end → r ≡ Some start
+    → let x = get_or path (end - 1) 0 in let l = take end path in
+    MatchOption r (AllWithin (λ y. y ≡ x → ⊥) l 0 (length l)) (λ i. (i < length l) × HoldsAt (λ y. y ≡ x) l i × AllWithin (λ y. y ≡ x → ⊥) l 0 i)
+    → Places path end start
+placed {path} {end} {r} {start} can e h =
+    let f = rw e at h in
+    record {
+      before = omega (arith, length-take-le end path can.within, f.0);
+      loop = from_place (get_or path (end - 1) 0) (take end path) start f.0 (f.1 0) (λ k b. f.2 k 0 zero-le b);
+    }

@@ -14,7 +14,9 @@ use lib.Pow.{shr_le}
 use borrow.Author.Tests.{eqb-true, eqb-false}
 use Rattle.demands.specs.Reading.{Each}
 use Rattle.demands.proofs.Sets.{split}
-use Rattle.loops.specs.Rows.{bit, has, passing, row_from, Next}
+use Rattle.std.specs.Prelude.{Option, None, Some}
+use Rattle.loops.specs.declared.RowNames.{RowNames}
+use Rattle.loops.specs.Rows.{bit, has, passing, row_from, First, Gives}
 use Rattle.loops.proofs.Bits.{bit_zero, bit_shr, bit_below, zeros_below, one_above}
 
 -- two numbers are the same, or not
@@ -97,25 +99,49 @@ module _ (ws : List ℕ) (a : ℕ) where
     t : ℕ
     t = count_trailing_zeros 64 v
 
+    v_small : v < 2 ^ 64
+    unfolding v
+    v_small = lt_of_le_of_lt (shr_le (get_or ws (8 * a + j / 64) 0) (j % 64)) small
+
     set_there : bit v t ≡ true
     unfolding v t
-    set_there = one_above 64 v (lt_of_le_of_lt (shr_le (get_or ws (8 * a + j / 64) 0) (j % 64)) small) n
+    set_there = one_above v n v_small
 
     within : j % 64 + t < 64
     unfolding v
     within = bit_below 64 (get_or ws (8 * a + j / 64) 0) (j % 64 + t) small (sym (bit_shr (get_or ws (8 * a + j / 64) 0) (j % 64) t) ∙ set_there)
 
-    pub next_bit : Next ws a j (j + count_trailing_zeros 64 (get_or ws (8 * a + j / 64) 0 / 2 ^ (j % 64)))
+    pub first_bit : First ws a j (j + count_trailing_zeros 64 (get_or ws (8 * a + j / 64) 0 / 2 ^ (j % 64)))
     unfolding v t
-    next_bit =
+    first_bit =
         let w : j % 64 + t < 64 = within in
         record {
-          upto = omega arith;
+          name = omega arith;
           after = omega arith;
-          rest = row_skip t j (omega arith) (λ i b. in_word j i (omega arith) ∙ zeros_below 64 v i b);
-          there = λ _. in_word j t w ∙ set_there;
+          rest = row_skip t j (omega arith) (λ i b. in_word j i (omega arith) ∙ zeros_below v n v_small i b);
+          there = in_word j t w ∙ set_there;
         }
 
--- what comes next behind names that the row does not have
-pub next_behind : {ws : List ℕ} {a i j r : ℕ} → i ≤ j → row_from ws a i ≡ row_from ws a j → Next ws a j r → Next ws a i r
-next_behind h e n = record { upto = n.upto; after = le_trans h n.after; rest = e ∙ n.rest; there = n.there }
+-- the first name behind names that the row does not have
+pub first_behind : {ws : List ℕ} {a i j r : ℕ} → i ≤ j → row_from ws a i ≡ row_from ws a j → First ws a j r → First ws a i r
+first_behind h e n = record { name = n.name; after = le_trans h n.after; rest = e ∙ n.rest; there = n.there }
+
+-- the names from the first on
+pub first_names : {ws : List ℕ} {a j b : ℕ} → First ws a j b → row_from ws a j ≡ b ∷ row_from ws a (b + 1)
+first_names {ws} {a} {j} {b} n = n.rest ∙ row_hit ws a b n.name n.there
+
+-- the iterator i is over row a of ws
+pub record Over (ws : List ℕ) (a : ℕ) (i : RowNames) : Type 0 where
+  pub words : i.words.now ≡ ws
+  pub row : i.row ≡ a
+
+pub over_next : {ws : List ℕ} {a : ℕ} {i j : RowNames} {r : Option ℕ} → Over ws a i → Gives i r j → Over ws a j
+over_next o n = record { words = n.words ∙ o.words; row = n.row ∙ o.row }
+
+-- what it gave is the row's first name from where it stood
+pub over_name : {ws : List ℕ} {a b : ℕ} {i j : RowNames} → Over ws a i → Gives i (Some b) j → First ws a i.from b
+over_name o n = rw o.row at (rw o.words at n.name)
+
+-- or there is none from there on
+pub over_end : {ws : List ℕ} {a : ℕ} {i j : RowNames} → Over ws a i → Gives i None j → row_from ws a i.from ≡ []
+over_end o n = rw o.row at (rw o.words at n.name)

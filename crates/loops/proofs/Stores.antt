@@ -1,14 +1,16 @@
--- What a store of a word does to rows of bits: the law of `connect`, the steps of `join_row` and `clear_row`, and what an array of zeros holds.
+-- What a store of a word does to rows of bits: the law of `insert`, the steps of `join_row`, the law of `clear_row`, and what an array of zeros holds.
 -- Assumes nothing.
-use Prim.Native.Nat.{ℕ, ◌+◌, ◌*◌, ◌≤◌, ◌<◌, ◌/◌, ◌%◌, ◌^◌, zero-le}
+use Prim.Native.Nat.{ℕ, ◌+◌, ◌*◌, ◌-◌, ◌≤◌, ◌<◌, ◌/◌, ◌%◌, ◌^◌, zero-le}
 use native.Mathlib.Omega.{arith}
 use mathlib.Core.Path.{◌≡◌, refl, sym, ◌∙◌, ap}
 use mathlib.Core.Logic.{⊎_elim}
 use mathlib.Core.Bool.{Bool, true, false, not, ◌||◌, ◌&&◌, or-false, and-true, and-false}
 use mathlib.Core.List.{List}
-use lib.ListN.{length, get_or, set, length-set, replicate, length-replicate, get_or-replicate, get_or-eq_default}
+use lib.ListN.{length, get_or, set, take, drop, length-take, length-drop, length-set, replicate, length-replicate, get_or-replicate, get_or-eq_default}
 use lib.Seq.{get_or-set_same, get_or-set_other}
 use lib.Dec.{eqb, ltb}
+use Rattle.std.proofs.lemmas.List.{places}
+use borrow.Rule.Slice.PartMut.{put_mid}
 use lib.Bits.{bit_or}
 use borrow.Author.Tests.{eq-eqb, ne_eqb, ltb-true, ltb-false}
 use Rattle.demands.proofs.Sets.{split}
@@ -115,38 +117,30 @@ joining_done {ws} {a} {more} {ws'} h c =
           (same_or x a);
     }
 
--- what the loop of `clear_row` keeps: i words of row a are 0
-pub record Clearing (ws : List ℕ) (a : ℕ) (ws' : List ℕ) (i : ℕ) : Type 0 where
-  pub upto : i ≤ 8
-  pub long : length ws' ≡ length ws
-  pub gone : (y : ℕ) → y < 64 * i → has ws' a y ≡ false
-  pub kept : (x y : ℕ) → y < 512 → (x ≡ a → 64 * i ≤ y) → has ws' x y ≡ has ws x y
+-- eight words are 0
+module _ (ws zs : List ℕ) (i k : ℕ) (long : i + 8 ≤ length ws) (e : zs ≡ replicate (i + 8 - i) 0) where
+  zeroed : i ≤ k → k < i + 8 → get_or (put_mid i (i + 8 - i) ws zs) k 0 ≡ 0
+  zeroed l h = grind (arith, places)
 
-pub clearing_start : (ws : List ℕ) (a : ℕ) → Clearing ws a ws 0
-clearing_start ws a = record { upto = zero-le; long = refl; gone = λ y h. absurd (omega arith); kept = λ x y h k. refl }
+  unzeroed : (i ≤ k → k < i + 8 → ⊥) → get_or (put_mid i (i + 8 - i) ws zs) k 0 ≡ get_or ws k 0
+  unzeroed n = ⊎_elim (λ (t : ltb k i ≡ true). let l : k < i = ltb-true k i t in grind (arith, places)) (λ (t : ltb k i ≡ false). let l : i + 8 ≤ k = omega (arith, n, ltb-false k i t) in grind (arith, places)) (split (ltb k i))
 
-pub clearing_more : {ws : List ℕ} {a : ℕ} {ws' : List ℕ} {i : ℕ} → 8 * a + 8 ≤ length ws → i < 8 → Clearing ws a ws' i → Clearing ws a (set ws' (8 * a + i) 0) (i + 1)
-clearing_more {ws} {a} {ws'} {i} long h c =
-    let within : 8 * a + i < length ws' = omega (arith, c.long) in
+-- the eight words of a row are 0
+pub emptied : {ws zs : List ℕ} (a : ℕ) → 8 * a + 8 ≤ length ws → zs ≡ replicate (length (take (8 * a + 8 - 8 * a) (drop (8 * a) ws))) 0 → Emptied ws a (put_mid (8 * a) (8 * a + 8 - 8 * a) ws zs)
+unfolding has
+emptied {ws} {zs} a long q =
+    let n : length (take (8 * a + 8 - 8 * a) (drop (8 * a) ws)) ≡ 8 * a + 8 - 8 * a = omega (arith, length-take {A = ℕ}, length-drop {A = ℕ}) in
+    let e : zs ≡ replicate (8 * a + 8 - 8 * a) 0 = rw n at q in
     record {
-      upto = omega arith;
-      long = length-set ws' (8 * a + i) 0 ∙ c.long;
-      gone = λ y b.
+      edges = λ x y h.
+          let k : ℕ = 8 * x + y / 64 in
           ⊎_elim
-          (λ (e : y / 64 ≡ i). has_same ws' (8 * a + i) 0 within a y (omega arith) ∙ bit_zero (y % 64))
-          (λ (n : y / 64 ≡ i → ⊥). has_other ws' (8 * a + i) 0 within a y (λ e. n (omega arith)) ∙ c.gone y (omega arith))
-          (same_or (y / 64) i);
-      kept = λ x y b k.
-          has_other ws' (8 * a + i) 0 within x y (λ e. let q : x ≡ a = omega arith in omega (arith, k q)) ∙ c.kept x y b (λ q. omega (arith, k q));
-    }
-
-pub clearing_done : {ws : List ℕ} {a : ℕ} {ws' : List ℕ} {i : ℕ} → 8 ≤ i → Clearing ws a ws' i → Emptied ws a ws'
-clearing_done {ws} {a} {ws'} h c =
-    record {
-      edges = λ x y b.
-          ⊎_elim
-          (λ (e : x ≡ a). ap (λ (z : ℕ). has ws' z y) e ∙ c.gone y (omega arith) ∙ sym (ap (λ (t : Bool). has ws x y && not t) (eq-eqb x a e) ∙ and-false (has ws x y)))
-          (λ (n : x ≡ a → ⊥). c.kept x y b (λ e. absurd (n e)) ∙ sym (ap (λ (t : Bool). has ws x y && not t) (ne_eqb x a n) ∙ and-true (has ws x y)))
+          (λ (q : x ≡ a).
+          ap (λ (v : ℕ). bit v (y % 64)) (zeroed ws zs (8 * a) k long e (omega arith) (omega arith)) ∙ bit_zero (y % 64)
+          ∙ sym (ap (λ (t : Bool). bit (get_or ws k 0) (y % 64) && not t) (eq-eqb x a q) ∙ and-false (bit (get_or ws k 0) (y % 64))))
+          (λ (n : x ≡ a → ⊥).
+          ap (λ (v : ℕ). bit v (y % 64)) (unzeroed ws zs (8 * a) k long e (omega arith))
+          ∙ sym (ap (λ (t : Bool). bit (get_or ws k 0) (y % 64) && not t) (ne_eqb x a n) ∙ and-true (bit (get_or ws k 0) (y % 64))))
           (same_or x a);
     }
 

@@ -1,7 +1,8 @@
 -- Sets of names as bits: a set is eight words with one bit a name, name 0 the lowest bit of the first word. Row a is the set in the eight
 -- words from 8 * a on; of a graph it holds the names that a has an edge to.
 -- Assumes nothing: these are definitions.
-use Rattle.std.specs.Prelude.{ℕ, zero, suc, ◌+◌, ◌*◌, ◌-◌, ◌≤◌, ◌<◌, ◌/◌, ◌%◌, ◌^◌, ◌≡◌, Bool, true, false, not, ◌||◌, ◌&&◌, List, [], ◌∷◌, get_or, eqb}
+use Rattle.std.specs.Prelude.{ℕ, zero, suc, ◌+◌, ◌*◌, ◌-◌, ◌≤◌, ◌<◌, ◌/◌, ◌%◌, ◌^◌, ◌≡◌, Bool, true, false, not, ◌||◌, ◌&&◌, List, [], ◌∷◌, get_or, eqb, Option, None, Some, IfSome}
+use Rattle.loops.specs.declared.RowNames.{RowNames}
 
 -- bit k of v is set
 unfoldable pub bit : ℕ → ℕ → Bool
@@ -24,12 +25,24 @@ row_from ws a j = passing (has ws a) (512 - j) j
 abbrev pub row : List ℕ → ℕ → List ℕ
 row ws a = row_from ws a 0
 
--- r is the first name of row a from j on, or 512
-pub record Next (ws : List ℕ) (a j r : ℕ) : Type 0 where
-  pub upto : r ≤ 512
-  pub after : j ≤ r
-  pub rest : row_from ws a j ≡ row_from ws a r
-  pub there : r < 512 → has ws a r ≡ true
+-- b is the first name of row a from j on
+pub record First (ws : List ℕ) (a j b : ℕ) : Type 0 where
+  pub name : b < 512
+  pub after : j ≤ b
+  pub rest : row_from ws a j ≡ row_from ws a b
+  pub there : has ws a b ≡ true
+
+-- r is the first name of row a from j on, or there is none
+abbrev pub Next : List ℕ → ℕ → ℕ → Option ℕ → Type 0
+Next ws a j None = row_from ws a j ≡ []
+Next ws a j (Some b) = First ws a j b
+
+-- a call of the iterator s over the names of a row gave r and left t
+pub record Gives (s : RowNames) (r : Option ℕ) (t : RowNames) : Type 0 where
+  pub words : t.words.now ≡ s.words.now
+  pub row : t.row ≡ s.row
+  pub name : Next s.words.now s.row s.from r
+  pub from : IfSome r (λ b. t.from ≡ b + 1)
 
 -- ws' is ws with b in row a
 pub record Connected (ws : List ℕ) (a b : ℕ) (ws' : List ℕ) : Type 0 where

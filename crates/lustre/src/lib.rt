@@ -3,12 +3,20 @@
 #![tactic(auto)]
 
 pub mod codes;
+pub mod kinds;
 
 ghost use Rattle.std.specs.Prelude.{◌≡◌};
 ghost use Rattle.lustre.specs.Answer.{number_and_place, refusal_of, first_of, second_of};
 
 // The value of a field that has none: no record, name or line has this number.
 pub const NONE: u64 = 18446744073709551615;
+
+// The most records, the most bytes of text and the fewest words of work memory that may be lent.
+pub const MAX_RECORDS: usize = 4096;
+
+pub const MAX_TEXT: usize = 16384;
+
+pub const MIN_WORK: usize = 4096;
 
 // Place kinds, in the order of document 01.
 pub const AT_PACKAGE: u64 = 0;
@@ -21,10 +29,17 @@ pub const AT_CONSTANT: u64 = 3;
 
 pub const AT_NODE: u64 = 4;
 
+// Records as they are lent: of each its kind and its word. A part of them begins at a later record.
+#[derive(Clone, Copy)]
+pub struct Records<'a> {
+    pub kinds: &'a [u8],
+    pub words: &'a [u64],
+}
+
 // A line of the report. `equation`, `step` and `name`, a name's number, may be NONE. Its layout is C's, so that `exports` can lend a slice of
 // lines.
 #[repr(C)]
-#[derive(Clone, Copy)]
+#[derive(Clone, Copy, Default, PartialEq, Eq)]
 pub struct Line {
     pub code: u64,
     pub place: u64,
@@ -35,7 +50,7 @@ pub struct Line {
 }
 
 // The refusals of what is lent, document 01's 1 to 6 and request 2.2's 8, each with its place. Every call on a project has them.
-#[derive(Clone, Copy)]
+#[derive(Clone, Copy, PartialEq, Eq)]
 pub enum Refusal {
     Sizes,
     ShortWork(u64),
@@ -48,7 +63,7 @@ pub enum Refusal {
 
 // What the check of a project answers: a report, with its number of lines and the number of edges followed, or one of eight refusals, with
 // its place.
-#[derive(Clone, Copy)]
+#[derive(Clone, Copy, PartialEq, Eq)]
 pub enum Answer {
     Report(u64, u64),
     Refused(Refusal),
@@ -56,7 +71,7 @@ pub enum Answer {
 }
 
 // An answer as numbers: 0 or the refusal's number, then its lines and edges followed, or its place and 0.
-#[derive(Drop)]
+#[derive(Clone, Copy, PartialEq, Eq)]
 pub struct Numbers {
     pub refusal: u64,
     pub first: u64,
@@ -64,62 +79,43 @@ pub struct Numbers {
 }
 
 // The number of a refusal of what is lent and its place, for every call that answers with one.
-pub fn refusal_numbers(r: Refusal) -> Numbers
-    ensures { (result.refusal ≡ (number_and_place r).0) × (result.first ≡ (number_and_place r).1) × (result.second ≡ 0) }
-{
-    match r {
-        Refusal::Sizes => Numbers {
-            refusal: 1,
-            first: 0,
+impl From<Refusal> for Numbers {
+    fn from(r: Refusal) -> Numbers
+        ensures { (result.refusal ≡ (number_and_place r).0) × (result.first ≡ (number_and_place r).1) × (result.second ≡ 0) }
+    {
+        let (refusal, first) = match r {
+            Refusal::Sizes => (1, 0),
+            Refusal::ShortWork(at) => (2, at),
+            Refusal::BadName(at) => (3, at),
+            Refusal::BadKind(at) => (4, at),
+            Refusal::NoProject(at) => (5, at),
+            Refusal::TooDeep(at) => (6, at),
+            Refusal::BadWord(at) => (8, at),
+        };
+        Numbers {
+            refusal,
+            first,
             second: 0,
-        },
-        Refusal::ShortWork(at) => Numbers {
-            refusal: 2,
-            first: at,
-            second: 0,
-        },
-        Refusal::BadName(at) => Numbers {
-            refusal: 3,
-            first: at,
-            second: 0,
-        },
-        Refusal::BadKind(at) => Numbers {
-            refusal: 4,
-            first: at,
-            second: 0,
-        },
-        Refusal::BadWord(at) => Numbers {
-            refusal: 8,
-            first: at,
-            second: 0,
-        },
-        Refusal::NoProject(at) => Numbers {
-            refusal: 5,
-            first: at,
-            second: 0,
-        },
-        Refusal::TooDeep(at) => Numbers {
-            refusal: 6,
-            first: at,
-            second: 0,
-        },
+        }
     }
 }
 
-pub fn as_numbers(a: Answer) -> Numbers
-    ensures { (result.refusal ≡ refusal_of a) × (result.first ≡ first_of a) × (result.second ≡ second_of a) }
-{
-    match a {
-        Answer::Report(lines, followed) => Numbers {
-            refusal: 0,
-            first: lines,
-            second: followed,
-        },
-        Answer::Refused(r) => refusal_numbers(r),
-        Answer::MoreLines(at) => Numbers {
-            refusal: 7,
-            first: at,
-            second: 0,
-        },
+impl From<Answer> for Numbers {
+    fn from(a: Answer) -> Numbers
+        ensures { (result.refusal ≡ refusal_of a) × (result.first ≡ first_of a) × (result.second ≡ second_of a) }
+    {
+        match a {
+            Answer::Report(lines, followed) => Numbers {
+                refusal: 0,
+                first: lines,
+                second: followed,
+            },
+            Answer::Refused(r) => Numbers::from(r),
+            Answer::MoreLines(at) => Numbers {
+                refusal: 7,
+                first: at,
+                second: 0,
+            },
+        }
     }
 }

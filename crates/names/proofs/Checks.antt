@@ -1,72 +1,63 @@
--- The judgement of one piece, test by test, and the check of a text, piece by piece.
+-- The check of a text, piece by piece.
 -- Assumes nothing.
-use Prim.Native.Nat.{ℕ, suc, ◌+◌, ◌-◌, ◌≤◌, ◌<◌}
-use mathlib.Core.Path.{◌≡◌, refl, sym, ◌∙◌}
-use mathlib.Core.Bool.{Bool, true, false, ◌&&◌, not}
-use mathlib.Core.List.{List, [], ◌∷◌}
-use mathlib.Core.Option.{none, some}
+use Rattle.std.proofs.Common.{◌≡◌, ℕ, suc, ◌+◌, ◌<◌, ◌≤◌, min, Bool, true, false, eqb, List, [], ◌∷◌, ◌++◌, length, get_or, take, Ok, Err, refl, sym, ◌∙◌, ⊎_elim, append_assoc, arith}
 use native.Mathlib.Nat.{add-zero, zero-add}
-use native.Mathlib.Omega.{arith}
-use borrow.Author.Tests.{le-leb, lt-leb, ltb-true, not-true, not-false}
-use lib.Dec.{leb, ltb}
-use lib.ListN.{length, take, drop, length-map, drop_of_length-le}
-use Rattle.lustre.specs.Name.{order, ◌among◌}
-use Rattle.lustre.specs.Names.{Piece, split, above, barred, is_name, bad_piece, bad_name, names_of}
-use Rattle.names.specs.declared.Names.TheVariants.{Good, Bad}
-use Rattle.names.specs.Scan.{end_from, piece_of, judged, checked}
-use Rattle.names.proofs.Pieces.{split_at}
+use lib.ListN.{length-map}
+use Rattle.std.proofs.lemmas.Bool.Decides.{nat_tests}
+use Rattle.std.proofs.lemmas.Bool.{cases_lt, eqb-true}
+use Rattle.std.proofs.lemmas.List.Elements.{All-head, All-tail}
+use Rattle.std.proofs.lemmas.List.{length_push, get_or_append_left, take_all, take_more, nil_from_length}
+use Rattle.std.proofs.Math.Option.{some, none}
+use Rattle.std.specs.List.{All, IsFirstMatchOrLen}
+use Rattle.lustre.specs.Name.{order}
+use Rattle.lustre.specs.Names.{Piece, longer, split, above, is_name, bad_piece, bad_name, names_of}
+use Rattle.lustre.specs.declared.Refusal.TheVariants.{BadName}
+use Rattle.names.specs.Scan.{piece_of, judged, checked}
 
--- a callee's answer, where the branch tests its negation
-pub told_no : {r t : Bool} → not r ≡ true → r ≡ t → false ≡ t
-told_no {r} n e = sym (not-true r n) ∙ e
+abbrev IsNonZero : ℕ → Type 0
+IsNonZero b = eqb b 0 ≡ false
 
-pub told_yes : {r t : Bool} → not r ≡ false → r ≡ t → true ≡ t
-told_yes {r} n e = sym (not-false r n) ∙ e
+split_closed : (bs rest : List ℕ) → All IsNonZero bs → split (bs ++ 0 ∷ rest) ≡ piece_of bs true ∷ split rest
+unfolding split longer
+split_closed [] rest h = refl
+split_closed (b ∷ bs) rest h = rw (split, All-head IsNonZero b bs h, split_closed bs rest (All-tail IsNonZero b bs h))
 
--- the tests of a piece, in the order of the code
-module _ (n : ℕ) (before bs : List ℕ) (c : Bool) where
-  pub not_closed : c ≡ false → false ≡ is_name n (some before) (piece_of bs c)
-  unfolding is_name
-  not_closed p = rw p
+split_open : (bs : List ℕ) → 0 < length bs → All IsNonZero bs → split bs ≡ piece_of bs false ∷ []
+unfolding split longer
+split_open [] l h = absurd (omega arith)
+split_open (b ∷ []) l h = rw (split, All-head IsNonZero b [] h)
+split_open (b ∷ c ∷ cs) l h = rw (split, All-head IsNonZero b (c ∷ cs) h, split_open (c ∷ cs) (omega arith) (All-tail IsNonZero b (c ∷ cs) h))
 
-  module _ (p : c ≡ true) where
-    pub too_short : length bs < 1 → false ≡ is_name n (some before) (piece_of bs c)
-    unfolding is_name
-    too_short h = rw (p, lt-leb 1 (length bs) h)
+-- what `split_inclusive` cuts off the rest: the piece up to the first zero, which is at i, with that zero; all of the rest where there is none
+pub record Cut (rest piece after : List ℕ) : Type 0 where
+  pub parts : rest ≡ piece ++ after
+  pub i : ℕ
+  pub long : length piece ≡ min (i + 1) (length rest)
+  pub first : IsFirstMatchOrLen (λ b. eqb b 0) rest i
+  pub some_byte : 0 < length rest
 
-    module _ (some_byte : 1 ≤ length bs) where
-      pub too_long : 64 < length bs → false ≡ is_name n (some before) (piece_of bs c)
-      unfolding is_name
-      too_long h = rw (p, le-leb 1 (length bs) some_byte, lt-leb (length bs) 64 h)
+module _ (rest piece after : List ℕ) (c : Cut rest piece after) where
+  pub cut_closed : (bs : List ℕ) → piece ≡ bs ++ 0 ∷ [] → split rest ≡ piece_of bs true ∷ split after
+  cut_closed bs e =
+      let long : length bs + 1 ≡ length piece = rw (e, length_push) in
+      let whole : rest ≡ bs ++ 0 ∷ after = c.parts ∙ rw (e, append_assoc) in
+      let below : All IsNonZero bs = λ k d l. rw (← get_or_append_left bs (0 ∷ after) d k l, ← whole) (c.first.0 k d (omega arith) (omega (arith, c.long))) in
+      rw (whole, split_closed bs after below)
 
-      module _ (not_long : length bs ≤ 64) where
-        pub not_above : false ≡ above (some before) bs → false ≡ is_name n (some before) (piece_of bs c)
-        unfolding is_name
-        not_above h = rw (p, le-leb 1 (length bs) some_byte, le-leb (length bs) 64 not_long, ← h)
+  found : c.i < length rest → piece ≡ take c.i piece ++ 0 ∷ []
+  found l =
+      let long : length piece ≡ c.i + 1 = omega (arith, c.long) in
+      let zero : get_or piece c.i 0 ≡ 0 = sym (get_or_append_left piece after 0 c.i (omega arith)) ∙ rw (← c.parts) (eqb-true _ 0 (c.first.1 l 0)) in
+      sym (take_all (c.i + 1) piece (omega arith)) ∙ take_more piece c.i 0 (omega arith) ∙ rw zero
 
-        module _ (over : true ≡ above (some before) bs) where
-          pub bars : true ≡ bs among barred → false ≡ is_name n (some before) (piece_of bs c)
-          unfolding is_name
-          bars h = rw (p, le-leb 1 (length bs) some_byte, le-leb (length bs) 64 not_long, ← over, ← h)
+  pub cut_open : ((front : List ℕ) → piece ≡ front ++ 0 ∷ [] → ⊥) → split rest ≡ piece_of rest false ∷ []
+  cut_open n =
+      ⊎_elim (λ l. absurd (n (take c.i piece) (found l))) (λ l. split_open rest c.some_byte (λ k d h. c.first.0 k d (omega arith) (omega arith))) (cases_lt c.i (length rest))
 
-          pub last_test : false ≡ bs among barred → ltb n 512 ≡ is_name n (some before) (piece_of bs c)
-          unfolding is_name
-          last_test h = rw (p, le-leb 1 (length bs) some_byte, le-leb (length bs) 64 not_long, ← over, ← h)
-
--- a name is closed, and its number is below 512
-name_closed : (n : ℕ) (before bs : List ℕ) (c : Bool) → true ≡ is_name n (some before) (piece_of bs c) → c ≡ true
-unfolding is_name
-name_closed n before bs true f = refl
-name_closed n before bs false f = sym f
-
-right : (s t : Bool) → true ≡ (s && t) → t ≡ true
-right true t f = sym f
-right false t f = cc
-
+-- a name's number is below 512
 name_counted : (n : ℕ) (before bs : List ℕ) (c : Bool) → true ≡ is_name n (some before) (piece_of bs c) → n < 512
 unfolding is_name
-name_counted n before bs c f =
-    ltb-true n 512 (right (c && leb 1 (length bs) && leb (length bs) 64 && above (some before) bs && not (bs among barred)) (ltb n 512) f)
+name_counted n before bs c f = grind (arith, nat_tests)
 
 -- before the first name the empty text serves as well as none, since every name is above it
 first_name : (p : Piece) → is_name 0 none p ≡ is_name 0 (some []) p
@@ -83,48 +74,33 @@ unfolding bad_piece
 first_bad [] = refl
 first_bad (p ∷ ps) = rw (first_name p, bad_piece)
 
--- the n pieces before the position `at` are names, the last of them from b to e: what the check says is what it says of the rest
-pub record Passed (text : List ℕ) (n b e at : ℕ) : Type 0 where
-  pub in_text : at ≤ length text
-  pub ordered : b ≤ e
-  pub before_in : e ≤ length text
+-- n names have passed, and the last of them is `before`: what the check says is what it says of the rest
+pub record Passed (text rest before : List ℕ) (n : ℕ) : Type 0 where
   pub few : n ≤ 512
-  pub rest : checked text ≡ judged (bad_piece n (some (take (e - b) (drop b text))) (split (drop at text))) (n + length (split (drop at text)))
+  pub left : checked text ≡ judged (bad_piece n (some before) (split rest)) (n + length (split rest))
 
-pub passed_start : (text : List ℕ) → Passed text 0 0 0 0
+pub passed_none : (text : List ℕ) → Passed text text [] 0
 unfolding checked bad_name names_of
-passed_start text =
+passed_none text =
     record {
-      in_text = omega arith;
-      ordered = omega arith;
-      before_in = omega arith;
       few = omega arith;
-      rest = rw (first_bad (split text), length-map (split text) (λ p. p.bytes), zero-add (length (split text)));
+      left = rw (first_bad (split text), length-map (split text) (λ p. p.bytes), zero-add (length (split text)));
     }
 
-module _ (text : List ℕ) (n b e at end : ℕ) (s : Passed text n b e at) (h : at < length text) (q : end ≡ end_from text at) where
-  abbrev judgement : Bool
-  judgement = is_name n (some (take (e - b) (drop b text))) (piece_of (take (end - at) (drop at text)) (ltb end (length text)))
-
-  pub passed_bad : false ≡ judgement → Bad n ≡ checked text
+module _ (text rest before : List ℕ) (n : ℕ) (s : Passed text rest before n) where
+  pub passed_bad : (p : Piece) (ps : List Piece) → split rest ≡ p ∷ ps → false ≡ is_name n (some before) p → Err (BadName n) ≡ checked text
   unfolding bad_piece
-  passed_bad f = rw (s.rest, split_at text at end q h, bad_piece, ← f)
+  passed_bad p ps e f = rw (s.left, e, bad_piece, ← f)
 
-  closed_in : true ≡ judgement → end < length text
-  closed_in f = ltb-true end (length text) (name_closed n _ _ _ f)
-
-  pub passed_more : true ≡ judgement → Passed text (n + 1) at end (end + 1)
+  pub passed_more : (bs after : List ℕ) → split rest ≡ piece_of bs true ∷ split after → true ≡ is_name n (some before) (piece_of bs true) → Passed text after bs (n + 1)
   unfolding bad_piece
-  passed_more f =
-      let m : n + suc (length (split (drop (end + 1) text))) ≡ n + 1 + length (split (drop (end + 1) text)) = omega arith in
+  passed_more bs after e f =
+      let m : n + suc (length (split after)) ≡ n + 1 + length (split after) = omega arith in
       record {
-        in_text = omega (arith, closed_in f);
-        ordered = omega arith;
-        before_in = omega (arith, closed_in f);
-        few = omega (arith, name_counted n _ _ _ f);
-        rest = rw (s.rest, split_at text at end q h, bad_piece, ← f, m);
+        few = omega (arith, name_counted n before bs true f);
+        left = rw (s.left, e, bad_piece, ← f, m);
       }
 
-pub passed_end : (text : List ℕ) (n b e at : ℕ) → Passed text n b e at → length text ≤ at → Good n ≡ checked text
-unfolding bad_piece split
-passed_end text n b e at s h = rw (s.rest, drop_of_length-le text {i = at} h, add-zero n)
+  pub passed_all : length rest ≡ 0 → Ok n ≡ checked text
+  unfolding bad_piece split
+  passed_all e = rw (s.left, nil_from_length rest e, add-zero n)

@@ -1,94 +1,42 @@
--- The byte order of two texts, position by position: what each return of `is_above` and `same_name` and each turn of their loops needs.
+-- The library's `<` and `==` on bytes, as the order of names and its equality.
 -- Assumes nothing.
-use Prim.Native.Nat.{ℕ, ◌+◌, ◌≤◌, ◌<◌, Ordering}
-use mathlib.Core.Path.{◌≡◌, refl, sym, ◌∙◌}
-use mathlib.Core.Bool.{Bool, true, false}
-use mathlib.Core.List.{List, [], ◌∷◌}
-use mathlib.Core.Option.{some}
-use native.Mathlib.Numerals.{add-one}
-use native.Mathlib.Omega.{arith}
-use lib.Dec.{compare_is_eq}
-use lib.ListN.{length, get_or, drop, drop_of_length-le}
-use lib.Seq.{drop-cons}
+use Rattle.std.proofs.Common.{◌≡◌, ℕ, ◌<◌, Bool, true, false, eqb, List, [], ◌∷◌, Some, Ordering, Less, Equal, Greater, refl, sym, ◌∙◌}
+use mathlib.Core.Bool.{◌||◌}
+use Prim.Native.Nat.{Ordering as Order}
+use Rattle.std.proofs.Math.Option.{some}
+use Rattle.std.specs.List.{list_any}
+use Rattle.std.specs.Ordering.{is_lt, is_some_and, nat_cmp, MatchOrdering}
+use Rattle.std.specs.Cmp.Lexicographic.{pointwise, slice_partial_cmp}
+use Rattle.std.proofs.lemmas.Cmp.{same_from_slice_cmp_tested, ranked}
+use Rattle.std.proofs.lemmas.Slice.Eq.{bytes_eq-Decides}
+use Rattle.std.proofs.lemmas.Bool.Decides.{same_from_decides}
+use Rattle.demands.proofs.Orders.{compare_is, is_test}
 use Rattle.lustre.specs.Name.{order, ◌is◌, mem, ◌among◌}
-use Rattle.demands.proofs.Orders.{compare_is, order_same}
-use Rattle.lustre.specs.Names.{above}
+use Rattle.lustre.specs.Names.{above, barred}
 
-above_as : (a b c d : List ℕ) → order a b ≡ order c d → above (some a) b ≡ above (some c) d
-unfolding above
-above_as a b c d e = rw (e, above)
-
-not_above_empty : (s : List ℕ) → above (some s) [] ≡ false
+firsts : (x y : ℕ) (xs ys : List ℕ) (o : Ordering) → MatchOrdering o (x < y) (x ≡ y) (y < x) → MatchOrdering o (above (some (x ∷ xs)) (y ∷ ys) ≡ true) (above (some (x ∷ xs)) (y ∷ ys) ≡ above (some xs) ys) (above (some (x ∷ xs)) (y ∷ ys) ≡ false)
 unfolding above order
-not_above_empty [] = refl
-not_above_empty (x ∷ xs) = refl
+firsts x y xs ys Less h = rw (compare_is x y Order.lt h, above, order)
+firsts x y xs ys Equal h = rw (compare_is x y Order.eq h, above, order)
+firsts x y xs ys Greater h = rw (compare_is x y Order.gt h, above, order)
 
--- two texts that differ are not the same name
-pub apart : (a b : List ℕ) → (a ≡ b → ⊥) → false ≡ a is b
-unfolding ◌is◌
-apart a b n = go (order a b) refl
-  where
-    go : (o : Ordering) → order a b ≡ o → false ≡ compare_is_eq o
-    go Ordering.lt p = refl
-    go Ordering.eq p = absurd (n (order_same a b p))
-    go Ordering.gt p = refl
+-- what `<` says
+pub above_by_lt : (a b : List ℕ) (r : Bool) → r ≡ is_some_and is_lt (slice_partial_cmp (λ x y. Some (nat_cmp x y)) a b) → r ≡ above (some a) b
+unfolding above order
+above_by_lt = same_from_slice_cmp_tested nat_cmp is_lt (λ a b. above (some a) b) refl (λ _ _. refl) (λ _ _. refl) (λ x y xs ys o e. firsts x y xs ys o (ranked x y o e))
 
--- the first i bytes of two texts decide nothing between them
-pub record Alike (a b : List ℕ) (i : ℕ) : Type 0 where
-  pub in_a : i ≤ length a
-  pub in_b : i ≤ length b
-  pub rest : order a b ≡ order (drop i a) (drop i b)
+is_by_eq : (a b : List ℕ) → pointwise eqb b a ≡ a is b
+is_by_eq a b = same_from_decides _ _ (bytes_eq-Decides b a) (λ e. sym (is_test.same a b e), λ e. rw e (is_test.self a))
 
-pub alike_start : (a b : List ℕ) → Alike a b 0
-alike_start a b = record { in_a = omega arith; in_b = omega arith; rest = refl }
-
-module _ (a b : List ℕ) (i : ℕ) (h : Alike a b i) where
-  ends_first : length a ≤ i → i < length b → order a b ≡ Ordering.lt
-  unfolding order
-  ends_first p q = h.rest ∙ rw (drop_of_length-le a {i = i} p, drop-cons b i 0 q)
-
-  decides_lt : i < length a → i < length b → get_or a i 0 < get_or b i 0 → order a b ≡ Ordering.lt
-  unfolding order
-  decides_lt p q l = h.rest ∙ rw (drop-cons a i 0 p, drop-cons b i 0 q, compare_is (get_or a i 0) (get_or b i 0) Ordering.lt l, order)
-
-  decides_gt : i < length a → i < length b → get_or b i 0 < get_or a i 0 → order a b ≡ Ordering.gt
-  unfolding order
-  decides_gt p q l = h.rest ∙ rw (drop-cons a i 0 p, drop-cons b i 0 q, compare_is (get_or a i 0) (get_or b i 0) Ordering.gt l, order)
-
-  pub alike_more : i < length a → i < length b → get_or a i 0 ≡ get_or b i 0 → Alike a b (i + 1)
-  unfolding order
-  alike_more p q e =
-      record { in_a = omega arith; in_b = omega arith; rest = h.rest ∙ rw (add-one i, drop-cons a i 0 p, drop-cons b i 0 q, e, compare_is (get_or b i 0) (get_or b i 0) Ordering.eq refl, order) }
-
-  -- the returns of `is_above`
-  pub above_longer : length a ≤ i → i < length b → true ≡ above (some a) b
-  unfolding above
-  above_longer p q = rw (ends_first p q, above)
-
-  pub above_less : i < length a → i < length b → get_or a i 0 < get_or b i 0 → true ≡ above (some a) b
-  unfolding above
-  above_less p q l = rw (decides_lt p q l, above)
-
-  pub above_greater : i < length a → i < length b → get_or b i 0 < get_or a i 0 → false ≡ above (some a) b
-  unfolding above
-  above_greater p q l = rw (decides_gt p q l, above)
-
-  pub above_end : length b ≤ i → false ≡ above (some a) b
-  above_end q = sym (above_as a b (drop i a) (drop i b) h.rest ∙ rw (drop_of_length-le b {i = i} q) (not_above_empty (drop i a)))
-
-  pub same_end : length a ≤ i → length b ≤ i → true ≡ a is b
-  unfolding ◌is◌ order
-  same_end p q = rw (h.rest, drop_of_length-le a {i = i} p, drop_of_length-le b {i = i} q)
-
--- a name among barred names, name by name
-pub barred_here : (a b : List ℕ) (bs : List (List ℕ)) → true ≡ a is b → true ≡ a among b ∷ bs
+among_by_any : (a : List ℕ) (bs : List (List ℕ)) → list_any (λ b. pointwise eqb b a) bs ≡ a among bs
 unfolding mem
-barred_here a b bs h = rw (mem, ← h)
-
-pub barred_later : (a b c : List ℕ) → false ≡ a is b → a is c ≡ a among b ∷ c ∷ []
-unfolding mem
-barred_later a b c h = rw (mem, ← h) (go (a is c))
+among_by_any a [] = refl
+among_by_any a (b ∷ bs) = rw (is_by_eq a b, among_by_any a bs) (go (a is b))
   where
-    go : (t : Bool) → t ≡ (elim t [ true ↦ true | false ↦ false ])
+    go : (t : Bool) → (t || (a among bs)) ≡ (elim t [ true ↦ true | false ↦ a among bs ])
     go true = refl
     go false = refl
+
+-- what `contains` says of the barred names
+pub barred_by_contains : (a : List ℕ) (r : Bool) → r ≡ list_any (λ b. pointwise eqb b a) barred → r ≡ a among barred
+barred_by_contains a r e = e ∙ among_by_any a barred

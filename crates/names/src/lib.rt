@@ -1,144 +1,72 @@
 // The lent text as names: document 01, 'What is lent', refusal 3. A name is 1 to 64 non-zero bytes closed by a zero byte, above the
 // name before it in byte order, and neither `__tuple__` nor `__unit__`; there are at most 512. `check_names` gives refusal 3's place
-// or the number of names, `name` the part of the text that is a name, `is_above` and `same_name` compare two names. Any bytes are taken.
+// or the number of names, `name` the part of the text that is a name, `is_above` compares two names. Any bytes are taken.
 #![tactic(auto)]
 
-ghost use Rattle.std.specs.Prelude.{◌≡◌, ◌≤◌, length};
+ghost use Rattle.std.specs.Prelude.{◌≡◌, true};
 ghost use Rattle.std.proofs.Math.Option.{some};
-ghost use Rattle.lustre.specs.Name.{◌is◌, ◌among◌};
+ghost use Rattle.lustre.specs.Name.{◌among◌};
 ghost use Rattle.lustre.specs.Names.{above, barred, is_name, names_of, name_at};
-ghost use Rattle.names.specs.Scan.{end_from, piece_of, checked};
+ghost use Rattle.names.specs.Scan.{piece_of, checked};
 
-// What the check of a text answers: the number of names, or the number of the first piece that is no name.
-#[derive(Drop)]
-pub enum Names {
-    Good(u64),
-    Bad(u64),
-}
+use lustre::Refusal;
 
-// The end of the piece that starts at a position: its closing zero, or the text's end.
-fn end_of(text: &[u8], at: usize) -> usize
-    requires { at ≤ length text.now }
-    ensures { result ≡ end_from text.now at }
-{
-    let mut i = at;
-    while i < text.len() {
-        if text[i] == 0 {
-            return i;
-        }
-        i += 1;
-    }
-    i
-}
+// A name has at most so many bytes.
+const MAX_LENGTH: usize = 64;
+
+// A text has at most so many names.
+const MAX_NAMES: u64 = 512;
+
+// The names that are barred: the Rust's names of two types of inference.
+const BARRED: [&[u8]; 2] = [b"__tuple__", b"__unit__"];
 
 // Whether b is above a in byte order.
+#[tactic(auto, using(crate::proofs::Orders::above_by_lt))]
 pub fn is_above(a: &[u8], b: &[u8]) -> bool
     ensures { result ≡ above (some a.now) b.now }
 {
-    let mut i = 0;
-    while i < b.len() {
-        if i >= a.len() {
-            return true;
-        }
-        if a[i] < b[i] {
-            return true;
-        }
-        if a[i] > b[i] {
-            return false;
-        }
-        i += 1;
-    }
-    false
+    a < b
 }
 
-// Whether two names are the same.
-pub fn same_name(a: &[u8], b: &[u8]) -> bool
-    ensures { result ≡ a.now is b.now }
-{
-    if a.len() != b.len() {
-        return false;
-    }
-    let mut i = 0;
-    while i < a.len() {
-        if a[i] != b[i] {
-            return false;
-        }
-        i += 1;
-    }
-    true
-}
-
-// Whether a name is barred: the Rust's names of two types of inference.
+// Whether a name is barred.
+#[tactic(auto, using(crate::proofs::Orders::barred_by_contains))]
 fn is_barred(a: &[u8]) -> bool
     ensures { result ≡ a.now among barred }
 {
-    let tuple = b"__tuple__";
-    let unit = b"__unit__";
-    if same_name(a, tuple) {
-        return true;
-    }
-    same_name(a, unit)
+    BARRED.contains(&a)
 }
 
-// Whether a piece is a name, as number n behind the name before it. The first has the empty text before it, which every name is above.
-fn is_name(n: u64, before: &[u8], piece: &[u8], closed: bool) -> bool
-    ensures { result ≡ is_name n (some before.now) (piece_of piece.now closed) }
+// Whether a closed piece is a name, as number n behind the name before it. The first has the empty text before it, which every name is above.
+#[tactic(auto, unfolding(lustre::specs::Names::is_name))]
+fn is_name(n: u64, before: &[u8], piece: &[u8]) -> bool
+    ensures { result ≡ is_name n (some before.now) (piece_of piece.now true) }
 {
-    if !closed {
-        return false;
-    }
-    if piece.len() < 1 {
-        return false;
-    }
-    if piece.len() > 64 {
-        return false;
-    }
-    if !is_above(before, piece) {
-        return false;
-    }
-    if is_barred(piece) {
-        return false;
-    }
-    n < 512
+    !piece.is_empty()
+        && piece.len() <= MAX_LENGTH
+        && is_above(before, piece)
+        && !is_barred(piece)
+        && n < MAX_NAMES
 }
 
-// The number of names in a text, or the number of its first piece that is no name. In the one pass over the text n names have passed,
-// the last of them from b to e, and the next piece starts at `at`.
-pub fn check_names(text: &[u8]) -> Names
+// The number of names in a text, or the number of its first piece that is no name.
+pub fn check_names(text: &[u8]) -> Result<u64, Refusal>
     ensures { result ≡ checked text.now }
 {
     let mut n = 0;
-    let mut b = 0;
-    let mut e = 0;
-    let mut at = 0;
-    while at < text.len() {
-        let end = end_of(text, at);
-        let closed = end < text.len();
-        if !is_name(n, &text[b..e], &text[at..end], closed) {
-            return Names::Bad(n);
+    let mut before: &[u8] = b"";
+    for piece in text.split_inclusive(|b| *b == 0) {
+        match piece.strip_suffix(b"\0") {
+            Some(name) if is_name(n, before, name) => before = name,
+            _ => return Err(Refusal::BadName(n)),
         }
-        b = at;
-        e = end;
-        at = end + 1;
         n += 1;
     }
-    Names::Good(n)
+    Ok(n)
 }
 
 // The part of the text that is name n, without its closing zero; empty past the last name. A last name that is not closed counts here.
-pub fn name<'a>(text: &'a [u8], n: usize) -> &'a [u8]
+pub fn name(text: &[u8], n: usize) -> &[u8]
     ensures { result.now ≡ name_at (names_of text.now) n }
 {
-    let mut at = 0;
-    let mut left = n;
-    while left > 0 {
-        let end = end_of(text, at);
-        if end >= text.len() {
-            return &text[end..];
-        }
-        at = end + 1;
-        left -= 1;
-    }
-    let end = end_of(text, at);
-    &text[at..end]
+    text.split(|b| *b == 0).nth(n).unwrap_or(b"")
 }

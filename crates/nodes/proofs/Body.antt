@@ -17,14 +17,16 @@ use Rattle.lustre.specs.Report.{of_place, node_lines}
 use Rattle.lustre.specs.Answer.{or_none, place_number}
 use Rattle.lines.specs.Lines.{Noted}
 use Rattle.lines.specs.declared.Spot.{Spot}
+use Rattle.lines.specs.declared.Lines.{Lines}
 use Rattle.scope.specs.Tables.{Declared}
 use Rattle.scope.specs.Writes.{Reports}
 use Rattle.scope.proofs.Writes.{placed, reports_append, reports_noted}
-use Rattle.nodes.specs.Nodes.{env_of, NodeGiven, NodeOpen, ImportedHere, imported_notes}
+use Rattle.nodes.specs.declared.Opened.{Opened}
+use Rattle.nodes.specs.Nodes.{env_of, NodeGiven, ListsAt, InCheck, ImportedHere, imported_notes}
 
 -- a node in whose check its ports and locals are in force
-abbrev pub opened : {ks ws sc sc' : List ℕ} {at : ℕ} (g : NodeGiven ks ws sc at) → Declared g.model (env_of g.n) sc' → NodeOpen ks ws sc' at
-opened g d = record { model = g.model; n = g.n; node = g.node; declared = d }
+abbrev pub opened : {ks ws sc sc' : List ℕ} {at : ℕ} {r : Opened} (g : NodeGiven ks ws sc at) → Declared g.model (env_of g.n) sc' → ListsAt g.n at r → InCheck ks ws sc' r
+opened {at = at} g d ls = record { at = at; node = record { model = g.model; n = g.n; node = g.node; declared = d }; lists = ls }
 
 -- and its records alone
 abbrev pub by_records : {ks ws sc : List ℕ} {at : ℕ} → NodeGiven ks ws sc at → ImportedHere ks ws at
@@ -71,15 +73,15 @@ module _ (Γ : Scope) (i : ℕ) (n : Node) where
 
 module _ {num : Name → ℕ} {q : Spot} (place : q.place ≡ 4) (equation : q.equation ≡ 18_446_744_073_709_551_615) where
   -- notes of the node itself
-  reports_own : (ns : List Note) {o o' : List ℕ} {k m : ℕ} → Noted num q ns o k m o' → Reports num q.first (map (placed at_node q.number none) ns) o k m o'
+  reports_own : (ns : List Note) {l l' : Lines} → Noted num q ns l l' → Reports num (map (placed at_node q.number none) ns) l l'
   unfolding or_none place_number
   reports_own ns d = reports_noted at_node none ns d place refl equation
 
   module _ (Γ : Scope) (n : Node) where
     -- the lines of opening, equations and closing are those of the node
-    pub body_reports : {o o₁ o₂ o₃ : List ℕ} {k m₁ m₂ m₃ : ℕ} → (n.kind ≡ Imported → ⊥) → Noted num q (opening_notes n) o k m₁ o₁
-        → Reports num q.first (map (of_place q.number) (equations_remarks Γ n (env_of n) [] 0 n.equations)) o₁ m₁ m₂ o₂
-        → Noted num q (closing_notes n (env_of n)) o₂ m₂ m₃ o₃ → Reports num q.first (node_lines Γ q.number n) o k m₃ o₃
+    pub body_reports : {l l₁ l₂ l₃ : Lines} → (n.kind ≡ Imported → ⊥) → Noted num q (opening_notes n) l l₁
+        → Reports num (map (of_place q.number) (equations_remarks Γ n (env_of n) [] 0 n.equations)) l₁ l₂
+        → Noted num q (closing_notes n (env_of n)) l₂ l₃ → Reports num (node_lines Γ q.number n) l l₃
     body_reports h a b c =
         let i = q.number in
         let starts = map (placed at_node i none) (opening_notes n) in
@@ -88,7 +90,7 @@ module _ {num : Name → ℕ} {q : Spot} (place : q.place ≡ 4) (equation : q.e
         rw (body_lines Γ i n h) (reports_append num (starts ++ eqs) ends (reports_append num starts eqs (reports_own (opening_notes n) a) b) (reports_own (closing_notes n (env_of n)) c))
 
     -- the line of an imported node is the node's
-    pub imported_reports : {o o₁ : List ℕ} {k m₁ : ℕ} → n.kind ≡ Imported → Noted num q (imported_notes n.equations) o k m₁ o₁ → Reports num q.first (node_lines Γ q.number n) o k m₁ o₁
+    pub imported_reports : {l l' : Lines} → n.kind ≡ Imported → Noted num q (imported_notes n.equations) l l' → Reports num (node_lines Γ q.number n) l l'
     imported_reports h a = rw (imported_lines Γ q.number n h) (reports_own (imported_notes n.equations) a)
 
 -- an imported node is not searched

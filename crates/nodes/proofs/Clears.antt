@@ -11,7 +11,7 @@ use Rattle.lustre.specs.Types.{Ty}
 use Rattle.lustre.specs.Project.{Port, Heading, Equation, Node, port_names}
 use Rattle.lustre.specs.Deps.{defined, read_by}
 use Rattle.demands.proofs.Sets.{clash, split}
-use Rattle.standing.specs.Standing.{source, outputs_from, locals_from}
+use Rattle.standing.specs.Standing.{source}
 use Rattle.loops.specs.Rows.{has, Cleared}
 use Rattle.types.specs.Value.{Injective}
 use Rattle.rules.specs.World.{PortsHere}
@@ -21,7 +21,8 @@ use Rattle.scope.specs.Sets.{Holds}
 use Rattle.scope.proofs.Rows.{forgetting_start, forgetting_done}
 use Rattle.scope.proofs.World.{apart}
 use Rattle.scope.proofs.Sets.{among_append}
-use Rattle.nodes.specs.Nodes.{Blank, env_of, NodeOpen, GraphOf}
+use Rattle.nodes.specs.declared.Opened.{Opened}
+use Rattle.nodes.specs.Nodes.{Blank, env_of, NodeOpen, ListsAt, GraphOf}
 use Rattle.nodes.proofs.Opens.{inputs_here, outputs_here, locals_here, names_append}
 
 -- ---- the graph
@@ -78,15 +79,15 @@ Forgets ks ws list sc sc' =
     → Forgetting (source ks ws g.text) as' rs vs cs ns (port_names g.ps ++ xs) sc → Forgetting (source ks ws g.text) as' rs vs cs ns xs sc'
 
 -- the inputs, outputs and locals are taken out one after another
-pub cleared_scope : {ks ws sc : List ℕ} {at : ℕ} (g : NodeOpen ks ws sc at) {outputs locals : ℕ} {sc₁ sc₂ sc₃ : List ℕ} → outputs ≡ outputs_from g.n at → locals ≡ locals_from g.n at
-    → Forgets ks ws (at + 1) sc sc₁ → Forgets ks ws outputs sc₁ sc₂ → Forgets ks ws locals sc₂ sc₃ → Declared g.model [] sc₃
-cleared_scope g e₁ e₂ first second third =
+pub cleared_scope : {ks ws sc : List ℕ} {at : ℕ} (g : NodeOpen ks ws sc at) {r : Opened} {sc₁ sc₂ sc₃ : List ℕ} → ListsAt g.n at r
+    → Forgets ks ws r.inputs sc sc₁ → Forgets ks ws r.outputs sc₁ sc₂ → Forgets ks ws r.locals sc₂ sc₃ → Declared g.model [] sc₃
+cleared_scope g ls first second third =
     let s = g.node.stands in
     let f = g.node.shallow in
     let i = apart g.model in
     let outs = port_names g.n.outputs in
     let locs = port_names g.n.locals in
     forgetting_done (
-    third (locals_here s f e₂) i _ _ _ _ _ [] (
-    second (outputs_here s f e₁) i _ _ _ _ _ (locs ++ []) (
-    first (inputs_here s f) i _ _ _ _ _ (outs ++ (locs ++ [])) (rw (env_names g.n) at (forgetting_start g.declared)))))
+    third (locals_here s f ls.locals) i _ _ _ _ _ [] (
+    second (outputs_here s f ls.outputs) i _ _ _ _ _ (locs ++ []) (
+    first (inputs_here s f ls.inputs) i _ _ _ _ _ (outs ++ (locs ++ [])) (rw (env_names g.n) at (forgetting_start g.declared)))))

@@ -14,9 +14,10 @@ use Rattle.lustre.specs.Walk.{graph_names}
 use Rattle.lustre.specs.Node.{absent, cycle_notes, looks, closing_notes}
 use Rattle.demands.proofs.Sets.{mem_in, in_mem}
 use Rattle.demands.proofs.Orders.{is_test, in_set}
-use Rattle.standing.specs.Standing.{source, outputs_from, locals_from, probes_from}
+use Rattle.standing.specs.Standing.{source, probes_from}
 use Rattle.lines.specs.Lines.{Noted}
 use Rattle.lines.specs.declared.Spot.{Spot}
+use Rattle.lines.specs.declared.Lines.{Lines}
 use Rattle.lines.proofs.Laws.{noted_append}
 use Rattle.loops.specs.Search.{Shows}
 use Rattle.types.specs.Value.{Naming}
@@ -27,8 +28,8 @@ use Rattle.scope.specs.Tables.{Tables}
 use Rattle.scope.specs.Sets.{Holds}
 use Rattle.scope.proofs.World.{apart}
 use Rattle.scope.proofs.Sets.{among_append}
-use Rattle.nodes.specs.declared.Judged.{Judged}
-use Rattle.nodes.specs.Nodes.{env_of, StandingNode, NodeOpen, GraphOf, NodeClosed}
+use Rattle.nodes.specs.declared.Opened.{Opened}
+use Rattle.nodes.specs.Nodes.{env_of, StandingNode, NodeOpen, ListsAt, GraphOf, NodeClosed}
 use Rattle.nodes.proofs.Opens.{outputs_here, locals_here, probes_here}
 
 -- ---- names of the graph
@@ -97,34 +98,34 @@ unfolding closing_notes
 closing_parts n env = refl
 
 -- what writing a line for each port that a set lacks does
-abbrev Lacks : List ℕ → List ℕ → ℕ → List ℕ → ℕ → Spot → List ℕ → ℕ → ℕ → List ℕ → Type 0
-Lacks ks ws list set code q o n m o' =
-    (g : PortsHere ks ws list) (num : Name → ℕ) → Numbers g.text num → (xs : List Name) → Holds g.text xs set → Noted num q (absent code xs (port_names g.ps)) o n m o'
+abbrev Lacks : List ℕ → List ℕ → ℕ → List ℕ → ℕ → Spot → Lines → Lines → Type 0
+Lacks ks ws list set code q l l' =
+    (g : PortsHere ks ws list) (num : Name → ℕ) → Numbers g.text num → (xs : List Name) → Holds g.text xs set → Noted num q (absent code xs (port_names g.ps)) l l'
 
 -- the outputs and locals that are not assigned, the loop, and the probes that are not in force
-pub closed : {ks ws sc : List ℕ} {at : ℕ} (g : NodeOpen ks ws sc at) {outputs locals probes : ℕ} {q : Spot} {set graph o o₁ o₂ o₃ o₄ : List ℕ} {n m₁ m₂ m₄ : ℕ} {j : Judged}
-    → outputs ≡ outputs_from g.n at → locals ≡ locals_from g.n at → probes ≡ probes_from g.n at → (g.n.kind ≡ Imported → ⊥)
+pub closed : {ks ws sc : List ℕ} {at : ℕ} (g : NodeOpen ks ws sc at) {r : Opened} {probes : ℕ} {q : Spot} {set graph : List ℕ} {l l₁ l₂ l₃ l₄ : Lines} {looked : ℕ}
+    → ListsAt g.n at r → probes ≡ probes_from g.n at → (g.n.kind ≡ Imported → ⊥)
     → Holds g.model.text (defined g.n.equations) set → GraphOf g.model g.n graph
-    → Lacks ks ws outputs set 50 q o n m₁ o₁ → Lacks ks ws locals set 51 q o₁ m₁ m₂ o₂
-    → (j.looks ≤ 262144)
-    × ((kind : NodeKind) (qs : List Equation) (text : Naming) (num : Name → ℕ) (names : ℕ) → (kind ≡ Imported → ⊥) → Numbers text num
-    → Shows qs text names graph set → Noted num q (cycle_notes kind qs) o₂ m₂ j.n o₃ × (j.looks ≡ looks kind qs))
+    → Lacks ks ws r.outputs set 50 q l l₁ → Lacks ks ws r.locals set 51 q l₁ l₂
+    → looked ≤ 262144
+    → ((kind : NodeKind) (qs : List Equation) (text : Naming) (num : Name → ℕ) (names : ℕ) → (kind ≡ Imported → ⊥) → Numbers text num
+    → Shows qs text names graph set → Noted num q (cycle_notes kind qs) l₂ l₃ × (looked ≡ looks kind qs))
     → ((h : NamesHere ws probes) (num : Name → ℕ) → Numbers h.text num
     → (as' : List (Name × Ty)) (rs : List (Name × List Port)) (vs : List (Name × Name)) (cs : List (Name × Ty)) (ns : List (Name × Heading)) (env : List Port)
-    → Tables (source h.ks ws h.text) as' rs vs cs ns env sc → Noted num q (absent 150 (port_names env) h.xs) o₃ j.n m₄ o₄)
-    → NodeClosed g.model g.n q o n (record { n = m₄; looks = j.looks }) o₄
-closed g e₁ e₂ e₃ k h w first second loops third =
+    → Tables (source h.ks ws h.text) as' rs vs cs ns env sc → Noted num q (absent 150 (port_names env) h.xs) l₃ l₄)
+    → NodeClosed g.model g.n q l looked l₄
+closed g ls e k h w first second few loops third =
     let s = g.node.stands in
-    let l = g.node.shallow in
+    let f = g.node.shallow in
     let num = g.model.number in
     let b = g.model.back in
     let xs = defined g.n.equations in
-    let c = loops.1 g.n.kind g.n.equations g.model.text num g.model.names k b (shown g.model g.node h w) in
+    let c = loops g.n.kind g.n.equations g.model.text num g.model.names k b (shown g.model g.node h w) in
     record {
       noted = rw (closing_parts g.n (env_of g.n)) (
           noted_append
-          (noted_append (noted_append (first (outputs_here s l e₁) num b xs h) (second (locals_here s l e₂) num b xs h)) c.0)
-          (third (probes_here s l e₃) num b _ _ _ _ _ (env_of g.n) g.declared));
+          (noted_append (noted_append (first (outputs_here s f ls.outputs) num b xs h) (second (locals_here s f ls.locals) num b xs h)) c.0)
+          (third (probes_here s f e) num b _ _ _ _ _ (env_of g.n) g.declared));
       looked = c.1;
-      few = loops.0;
+      few = few;
     }

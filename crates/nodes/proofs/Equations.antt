@@ -1,7 +1,7 @@
 -- The equations of a node one after another: their lines, the names assigned and the edges of the graph.
 -- Assumes nothing.
 use Rattle.std.specs.Prelude.{if◌then◌else◌}
-use Prim.Native.Nat.{ℕ, suc, ◌+◌, ◌<◌}
+use Prim.Native.Nat.{ℕ, suc, ◌+◌, ◌≤◌, ◌<◌}
 use native.Mathlib.Omega.{arith}
 use mathlib.Core.Path.{◌≡◌, refl, sym, ◌∙◌, ap}
 use mathlib.Core.Bool.{Bool, true, false, ◌&&◌, ◌||◌}
@@ -18,9 +18,10 @@ use Rattle.lustre.specs.Report.{of_place}
 use Rattle.lustre.specs.Answer.{or_none, place_number}
 use Rattle.demands.specs.Reading.{Each}
 use Rattle.input.specs.Depths.{ShallowExpr}
-use Rattle.standing.specs.Standing.{Source, RecAt, EachAt, ListAt, EquationAt, sizes_of, list_size, equation_size, equations_from}
+use Rattle.standing.specs.Standing.{Source, EachAt, ListAt, EquationAt, sizes_of, list_size, equation_size, equations_from}
 use Rattle.standing.proofs.Sizes.{First, first, no_items}
 use Rattle.lines.specs.declared.Spot.{Spot}
+use Rattle.lines.specs.declared.Lines.{Lines}
 use Rattle.loops.specs.Rows.{has}
 use Rattle.types.specs.Value.{Injective}
 use Rattle.scope.specs.Tables.{records}
@@ -29,58 +30,51 @@ use Rattle.scope.specs.Writes.{Reports}
 use Rattle.scope.proofs.World.{apart}
 use Rattle.scope.proofs.Sets.{holds_same, among_append}
 use Rattle.scope.proofs.Writes.{placed, reports_none, reports_append, reports_noted}
-use Rattle.body.specs.declared.Passed.{Passed}
 use Rattle.equations.specs.Equations.{EquationGiven, EquationChecked, EquationHere, EdgesAdded}
 use Rattle.nodes.specs.Nodes.{Blank, env_of, NodeOpen, EquationsChecked}
 
 -- ---- the equations that are left
 
--- the equations `rest` stand from a position on, and end where the whole list does
-pub record Ahead (S : Source) (all : List Equation) (list next left : ℕ) : Type 0 where
+-- the equations behind the first e of them stand from a position on, and end where the whole list does
+pub record Ahead (S : Source) (all : List Equation) (list next e : ℕ) : Type 0 where
   pub rest : List Equation
   pub stand : EachAt (EquationAt S) equation_size rest next
-  pub many : length rest ≡ left
+  pub many : length rest + e ≡ length all
   pub shallow : Each (λ (q : Equation). ShallowExpr q.rhs) rest
   pub ends : next + sizes_of equation_size rest ≡ list + list_size equation_size all
 
--- the list record stands
-pub list_inside : {ks ws sc : List ℕ} {at list : ℕ} (g : NodeOpen ks ws sc at) → list ≡ equations_from g.n at → RecAt (records g.model) list 3
-list_inside g h = rw h g.node.stands.equations.head
+-- the list of the equations of a node
+pub list_here : {ks ws sc : List ℕ} {at list : ℕ} (g : NodeOpen ks ws sc at) → list ≡ equations_from g.n at → ListAt (records g.model) (EquationAt (records g.model)) equation_size g.n.equations list
+list_here g h = rw h g.node.stands.equations
 
 -- all of them, behind the list record
-pub ahead_start : {ks ws sc : List ℕ} {at list : ℕ} (g : NodeOpen ks ws sc at) → list ≡ equations_from g.n at → Ahead (records g.model) g.n.equations list (list + 1) (get_or ws list 0)
-ahead_start {ks} {ws} {sc} {at} {list} g h =
-    let l : ListAt (records g.model) (EquationAt (records g.model)) equation_size g.n.equations list = rw h g.node.stands.equations in
-    record { rest = g.n.equations; stand = l.items; many = sym l.many; shallow = g.node.shallow.equations; ends = omega arith }
+pub ahead_start : {ks ws sc : List ℕ} {at list : ℕ} (g : NodeOpen ks ws sc at) → list ≡ equations_from g.n at → Ahead (records g.model) g.n.equations list (list + 1) 0
+ahead_start g h = record { rest = g.n.equations; stand = (list_here g h).items; many = omega arith; shallow = g.node.shallow.equations; ends = omega arith }
 
 -- the records of the first and of the others
 sizes_more : {qs : List Equation} (q : Equation) (rest : List Equation) → qs ≡ q ∷ rest → sizes_of equation_size qs ≡ equation_size q + sizes_of equation_size rest
 unfolding sizes_of
 sizes_more q rest e = rw e
 
-module _ {S : Source} {all : List Equation} {list next left : ℕ} (a : Ahead S all list next left) (h : left ≡ 0 → ⊥) where
+module _ {S : Source} {all : List Equation} {list next e : ℕ} (a : Ahead S all list next e) (h : e < length all) where
   -- the first that is left
-  abbrev pub ahead_first : First (EquationAt S) equation_size a.rest next left
-  ahead_first = first (EquationAt S) equation_size a.rest next left a.many h a.stand
+  abbrev pub ahead_first : First (EquationAt S) equation_size a.rest next (length a.rest)
+  ahead_first = first (EquationAt S) equation_size a.rest next (length a.rest) refl (λ z. omega (arith, a.many)) a.stand
 
   -- it and the others are shallow
   pub ahead_shallow : Each (λ (q : Equation). ShallowExpr q.rhs) (ahead_first.x ∷ ahead_first.rest)
   ahead_shallow = rw ahead_first.is at a.shallow
 
-  -- the first begins within the records
-  pub ahead_inside : next < length S.ks
-  ahead_inside = ahead_first.x_at.head.in_kinds
-
   -- the others
-  pub ahead_next : {e i : ℕ} → e ≡ next + equation_size ahead_first.x → i + 1 ≡ left → Ahead S all list e i
-  ahead_next {e} {i} c k =
+  pub ahead_next : {r : ℕ} → r ≡ next + equation_size ahead_first.x → Ahead S all list r (e + 1)
+  ahead_next {r} c =
       let f = ahead_first in
-      record { rest = f.rest; stand = rw c f.rest_at; many = omega (arith, f.fewer); shallow = ahead_shallow.1; ends = omega (arith, a.ends, sizes_more f.x f.rest f.is) }
+      record { rest = f.rest; stand = rw c f.rest_at; many = omega (arith, f.fewer, a.many); shallow = ahead_shallow.1; ends = omega (arith, a.ends, sizes_more f.x f.rest f.is) }
 
-module _ {S : Source} {all : List Equation} {list next left : ℕ} (a : Ahead S all list next left) (z : left ≡ 0) where
+module _ {S : Source} {all : List Equation} {list next e : ℕ} (a : Ahead S all list next e) (z : length all ≤ e) where
   -- none is left
   pub ahead_none : a.rest ≡ []
-  ahead_none = no_items a.rest (a.many ∙ z)
+  ahead_none = no_items a.rest (omega (arith, a.many))
 
   -- then the list is passed
   pub ahead_end : next ≡ list + list_size equation_size all
@@ -89,18 +83,19 @@ module _ {S : Source} {all : List Equation} {list next left : ℕ} (a : Ahead S 
 
 -- ---- the first equation as `equations` asks for it
 
--- with its scope
-abbrev pub given_first : {ks ws sc : List ℕ} {at list next left : ℕ} (g : NodeOpen ks ws sc at) (a : Ahead (records g.model) g.n.equations list next left) → (left ≡ 0 → ⊥) → EquationGiven ks ws sc next
-given_first g a h = record {
-  scoped = record { model = g.model; env = env_of g.n; declared = g.declared };
-  eq = (ahead_first a h).x;
-  stands = (ahead_first a h).x_at;
-  shallow = (ahead_shallow a h).0;
-}
+module _ {ks ws sc : List ℕ} {at list next e : ℕ} (g : NodeOpen ks ws sc at) (a : Ahead (records g.model) g.n.equations list next e) (h : e < length g.n.equations) where
+  -- with its scope
+  abbrev pub given_first : EquationGiven ks ws sc next
+  given_first = record {
+    scoped = record { model = g.model; env = env_of g.n; declared = g.declared };
+    eq = (ahead_first a h).x;
+    stands = (ahead_first a h).x_at;
+    shallow = (ahead_shallow a h).0;
+  }
 
--- and by its records alone
-abbrev pub here_first : {ks ws sc : List ℕ} {at list next left : ℕ} (g : NodeOpen ks ws sc at) (a : Ahead (records g.model) g.n.equations list next left) → (left ≡ 0 → ⊥) → EquationHere ks ws next
-here_first g a h = record { text = g.model.text; eq = (ahead_first a h).x; stands = (ahead_first a h).x_at }
+  -- and by its records alone
+  abbrev pub here_first : EquationHere ks ws next
+  here_first = record { text = g.model.text; eq = (ahead_first a h).x; stands = (ahead_first a h).x_at }
 
 -- ---- lists of equations
 
@@ -173,9 +168,9 @@ AddsEdges h graph graph' = Injective h.text → EdgesAdded h.text h.eq graph gra
 
 -- p is the spot of equation e of the node at q
 abbrev pub SpotIn : Spot → ℕ → Spot → Type 0
-SpotIn q e p = (p.place ≡ q.place) × (p.number ≡ q.number) × (p.equation ≡ e) × (p.first ≡ q.first) × (p.function ≡ q.function)
+SpotIn q e p = (p.place ≡ q.place) × (p.number ≡ q.number) × (p.equation ≡ e) × (p.function ≡ q.function)
 
-module _ {ks ws sc : List ℕ} {at : ℕ} (g : NodeOpen ks ws sc at) (list : ℕ) (q : Spot) (o : List ℕ) (k : ℕ) where
+module _ {ks ws sc : List ℕ} {at : ℕ} (g : NodeOpen ks ws sc at) (list : ℕ) (q : Spot) (l₀ : Lines) where
   -- the lines of equations, numbered from e, where the names `seen` are assigned before
   abbrev lines : List Name → ℕ → List Equation → List Line
   lines seen e qs = map (of_place q.number) (equations_remarks (context (skeleton g.model.P)) g.n (env_of g.n) seen e qs)
@@ -185,16 +180,16 @@ module _ {ks ws sc : List ℕ} {at : ℕ} (g : NodeOpen ks ws sc at) (list : ℕ
   read qs a b = g.model.text b among read_by (g.model.text a) qs
 
   -- the equations that are left: with their lines, names and edges those of the node are complete
-  pub record Checking (set graph out : List ℕ) (left next e m : ℕ) : Type 0 where
-    pub ahead : Ahead (records g.model) g.n.equations list next left
+  pub record Checking (set graph : List ℕ) (l : Lines) (next e : ℕ) : Type 0 where
+    pub ahead : Ahead (records g.model) g.n.equations list next e
     pub seen : List Name
     pub holds : Holds g.model.text seen set
     pub same : (x : Name) → (x among (seen ++ defined ahead.rest)) ≡ (x among defined g.n.equations)
-    pub reports : {m' : ℕ} {o' : List ℕ} → Reports g.model.number q.first (lines seen e ahead.rest) out m m' o' → Reports g.model.number q.first (lines [] 0 g.n.equations) o k m' o'
+    pub reports : {l' : Lines} → Reports g.model.number (lines seen e ahead.rest) l l' → Reports g.model.number (lines [] 0 g.n.equations) l₀ l'
     pub edges : (a b : ℕ) → a < 512 → b < 512 → (has graph a b || read ahead.rest a b) ≡ read g.n.equations a b
 
   -- all are left
-  pub checking_start : {set graph : List ℕ} → list ≡ equations_from g.n at → Holds g.model.text [] set → Blank graph → Checking set graph o (get_or ws list 0) (list + 1) 0 k
+  pub checking_start : {set graph : List ℕ} → list ≡ equations_from g.n at → Holds g.model.text [] set → Blank graph → Checking set graph l₀ (list + 1) 0
   unfolding ahead_start
   checking_start {graph = graph} h s b = record {
     ahead = ahead_start g h;
@@ -205,19 +200,18 @@ module _ {ks ws sc : List ℕ} {at : ℕ} (g : NodeOpen ks ws sc at) (list : ℕ
     edges = λ x y s t. ap (λ (u : Bool). u || read g.n.equations x y) (b.empty x y s t);
   }
 
-  module _ {set graph out : List ℕ} {left next e m : ℕ} (c : Checking set graph out left next e m) where
-    module _ (h : left ≡ 0 → ⊥) where
+  module _ {set graph : List ℕ} {l : Lines} {next e : ℕ} (c : Checking set graph l next e) where
+    module _ (h : e < length g.n.equations) where
       -- the lines of the first, then those of the others
-      reports_next : {p : Spot} → SpotIn q e p → is_function g.n.kind ≡ q.function → q.place ≡ 4 → {ins set' out' : List ℕ} {r : Passed} → Holds g.model.text (port_names g.n.inputs) ins
-          → EquationChecked (given_first g c.ahead h) p ins set out m r set' out' → {m' : ℕ} {o' : List ℕ}
-          → Reports g.model.number q.first (lines ((ahead_first c.ahead h).x.lhs ++ c.seen) (suc e) (ahead_first c.ahead h).rest) out' r.n m' o'
-          → Reports g.model.number q.first (lines c.seen e c.ahead.rest) out m m' o'
+      reports_next : {p : Spot} → SpotIn q e p → is_function g.n.kind ≡ q.function → q.place ≡ 4 → {ins set' : List ℕ} {r : ℕ} {l₁ : Lines} → Holds g.model.text (port_names g.n.inputs) ins
+          → EquationChecked (given_first g c.ahead h) p ins set l r set' l₁ → {l' : Lines}
+          → Reports g.model.number (lines ((ahead_first c.ahead h).x.lhs ++ c.seen) (suc e) (ahead_first c.ahead h).rest) l₁ l'
+          → Reports g.model.number (lines c.seen e c.ahead.rest) l l'
       unfolding or_none place_number
-      reports_next {p} w f at4 {ins} {set'} {out'} {r} t d rest =
+      reports_next {p} w f at4 {l₁ = l₁} t d rest =
           let x = (ahead_first c.ahead h).x in
           let notes = equation_notes (context (skeleton g.model.P)) g.n (env_of g.n) c.seen x in
-          let one : Reports g.model.number p.first (map (placed at_node q.number (some e)) notes) out m r.n out' = reports_noted at_node (some e) notes (d.noted g.n c.seen (f ∙ sym w.4) t c.holds) (w.0 ∙ at4) w.1 w.2 in
-          let mine : Reports g.model.number q.first (map (placed at_node q.number (some e)) notes) out m r.n out' = rw w.3 at one in
+          let mine : Reports g.model.number (map (placed at_node q.number (some e)) notes) l l₁ = reports_noted at_node (some e) notes (d.noted g.n c.seen (f ∙ sym w.3) t c.holds) (w.0 ∙ at4) w.1 w.2 in
           rw ((ahead_first c.ahead h).is, lines_first (context (skeleton g.model.P)) g.n c.seen q.number e x (ahead_first c.ahead h).rest)
           (reports_append g.model.number (map (placed at_node q.number (some e)) notes) (lines (x.lhs ++ c.seen) (suc e) (ahead_first c.ahead h).rest) mine rest)
 
@@ -234,15 +228,15 @@ module _ {ks ws sc : List ℕ} {at : ℕ} (g : NodeOpen ks ws sc at) (list : ℕ
           ∙ ap (λ (l : List Equation). has graph a b || read l a b) (sym (ahead_first c.ahead h).is)
 
       -- one more
-      pub checking_next : {p : Spot} → SpotIn q e p → is_function g.n.kind ≡ q.function → q.place ≡ 4 → {ins set' graph' out' : List ℕ} {r : Passed} {i : ℕ}
+      pub checking_next : {p : Spot} → SpotIn q e p → is_function g.n.kind ≡ q.function → q.place ≡ 4 → {ins set' graph' : List ℕ} {r : ℕ} {l₁ : Lines}
           → Holds g.model.text (port_names g.n.inputs) ins → AddsEdges (here_first g c.ahead h) graph graph'
-          → EquationChecked (given_first g c.ahead h) p ins set out m r set' out' → i + 1 ≡ left → Checking set' graph' out' i r.next (e + 1) r.n
+          → EquationChecked (given_first g c.ahead h) p ins set l r set' l₁ → Checking set' graph' l₁ r (e + 1)
       unfolding ahead_next
-      checking_next w f at4 {graph' = graph'} {out'} {r} t v d k =
+      checking_next w f at4 t v d =
           let u : e + 1 ≡ suc e = omega arith in
           let x = ahead_first c.ahead h in
           record {
-            ahead = ahead_next c.ahead h d.next k;
+            ahead = ahead_next c.ahead h d.next;
             seen = x.x.lhs ++ c.seen;
             holds = d.assigned c.seen c.holds;
             same = λ y. defined_moved y c.seen x.x x.rest ∙ ap (λ (l : List Equation). y among (c.seen ++ defined l)) (sym x.is) ∙ c.same y;
@@ -251,7 +245,7 @@ module _ {ks ws sc : List ℕ} {at : ℕ} (g : NodeOpen ks ws sc at) (list : ℕ
           }
 
     -- none is left
-    pub checking_end : left ≡ 0 → length graph ≡ 4096 → EquationsChecked g.model g.n list q o k (record { next = next; n = m }) set graph out
+    pub checking_end : length g.n.equations ≤ e → length graph ≡ 4096 → EquationsChecked g.model g.n list q l₀ next set graph l
     unfolding read_by mem
     checking_end z room =
         let none = ahead_none c.ahead z in

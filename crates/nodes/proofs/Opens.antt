@@ -13,13 +13,13 @@ use Rattle.input.specs.Depths.{ShallowNode}
 use Rattle.standing.specs.Standing.{source, NodeAt, ports_size, outputs_from, locals_from, equations_from, probes_from}
 use Rattle.lines.specs.Lines.{Noted}
 use Rattle.lines.specs.declared.Spot.{Spot}
+use Rattle.lines.specs.declared.Lines.{Lines}
 use Rattle.lines.proofs.Laws.{noted_none, noted_append}
 use Rattle.types.specs.Value.{Naming, Injective}
 use Rattle.rules.specs.World.{PortsHere}
 use Rattle.scope.specs.Names.{NamesHere}
 use Rattle.scope.specs.Sets.{Holds}
 use Rattle.scope.proofs.World.{apart}
-use Rattle.ports.specs.declared.Walked.{Walked}
 use Rattle.ports.specs.Ports.{PortsEntered}
 use Rattle.nodes.specs.Nodes.{NodeGiven, NodeOpened, imported_notes}
 
@@ -27,8 +27,8 @@ use Rattle.nodes.specs.Nodes.{NodeGiven, NodeOpened, imported_notes}
 
 module _ {ks ws : List ℕ} {text : Naming} {n : Node} {at : ℕ} (s : NodeAt (source ks ws text) n at) (f : ShallowNode n) where
   -- its inputs
-  abbrev pub inputs_here : PortsHere ks ws (at + 1)
-  inputs_here = record { text = text; ps = n.inputs; listed = record { stand = s.inputs; few = f.inputs } }
+  abbrev pub inputs_here : {i : ℕ} → i ≡ at + 1 → PortsHere ks ws i
+  inputs_here e = record { text = text; ps = n.inputs; listed = rw e (record { stand = s.inputs; few = f.inputs }) }
 
   -- its outputs
   abbrev pub outputs_here : {i : ℕ} → i ≡ outputs_from n at → PortsHere ks ws i
@@ -46,7 +46,7 @@ module _ {ks ws : List ℕ} {text : Naming} {n : Node} {at : ℕ} (s : NodeAt (s
   pub lists_end : {i j k : ℕ} → ((h : PortsHere ks ws (at + 1)) → i ≡ at + 1 + ports_size h.ps) → ((h : PortsHere ks ws i) → j ≡ i + ports_size h.ps)
       → ((h : PortsHere ks ws j) → k ≡ j + ports_size h.ps) → k ≡ equations_from n at
   lists_end first second third =
-      let a = first inputs_here in
+      let a = first (inputs_here refl) in
       let b = second (outputs_here a) ∙ ap (λ (k : ℕ). k + ports_size n.outputs) a in
       third (locals_here b) ∙ ap (λ (k : ℕ). k + ports_size n.locals) b
 
@@ -75,31 +75,29 @@ opening_parts n = rw (names_append n.inputs n.outputs, names_nil)
 
 -- ---- the start of a check
 
-module _ {ks ws sc : List ℕ} {at : ℕ} (g : NodeGiven ks ws sc at) {q : Spot} {ins ins' o o₁ o₂ o₃ sc₁ sc₂ sc₃ : List ℕ} {n : ℕ} {r₁ r₂ r₃ : Walked} where
+module _ {ks ws sc : List ℕ} {at : ℕ} (g : NodeGiven ks ws sc at) {q : Spot} {ins ins' sc₁ sc₂ sc₃ : List ℕ} {l l₁ l₂ l₃ : Lines} {r₁ r₂ r₃ : ℕ} where
   -- the inputs, outputs and locals are entered one after another
   pub opened : Holds g.model.text [] ins
       → ((h : PortsHere ks ws (at + 1)) → Injective h.text → (xs : List Name) → Holds h.text xs ins → Holds h.text (port_names h.ps ++ xs) ins')
-      → ((h : PortsHere ks ws (at + 1)) → Injective h.text → PortsEntered (source ks ws h.text) h.ps (at + 1) 10 q sc o n r₁ sc₁ o₁)
-      → ((h : PortsHere ks ws r₁.next) → Injective h.text → PortsEntered (source ks ws h.text) h.ps r₁.next 11 q sc₁ o₁ r₁.n r₂ sc₂ o₂)
-      → ((h : PortsHere ks ws r₂.next) → Injective h.text → PortsEntered (source ks ws h.text) h.ps r₂.next 12 q sc₂ o₂ r₂.n r₃ sc₃ o₃)
-      → NodeOpened g.model g.n at q o n (record { outputs = r₁.next; locals = r₂.next; equations = r₃.next; n = r₃.n }) sc₃ ins' o₃
+      → ((h : PortsHere ks ws (at + 1)) → Injective h.text → PortsEntered (source ks ws h.text) h.ps (at + 1) 10 q sc l r₁ sc₁ l₁)
+      → ((h : PortsHere ks ws r₁) → Injective h.text → PortsEntered (source ks ws h.text) h.ps r₁ 11 q sc₁ l₁ r₂ sc₂ l₂)
+      → ((h : PortsHere ks ws r₂) → Injective h.text → PortsEntered (source ks ws h.text) h.ps r₂ 12 q sc₂ l₂ r₃ sc₃ l₃)
+      → NodeOpened g.model g.n at q l (record { inputs = at + 1; outputs = r₁; locals = r₂; equations = r₃ }) sc₃ ins' l₃
   opened none names first second third =
       let s = g.node.stands in
       let f = g.node.shallow in
       let i = apart g.model in
-      let a = first (inputs_here s f) i in
+      let a = first (inputs_here s f refl) i in
       let b = second (outputs_here s f a.next) i in
-      let p : r₂.next ≡ locals_from g.n at = b.next ∙ ap (λ (k : ℕ). k + ports_size g.n.outputs) a.next in
+      let p : r₂ ≡ locals_from g.n at = b.next ∙ ap (λ (k : ℕ). k + ports_size g.n.outputs) a.next in
       let c = third (locals_here s f p) i in
       let t = a.tables _ _ _ _ _ [] g.declared in
       let u = b.tables _ _ _ _ _ g.n.inputs t in
       let v = c.tables _ _ _ _ _ (g.n.inputs ++ g.n.outputs) u in
       record {
-        outputs = a.next;
-        locals = p;
-        equations = c.next ∙ ap (λ (k : ℕ). k + ports_size g.n.locals) p;
+        lists = record { inputs = refl; outputs = a.next; locals = p; equations = c.next ∙ ap (λ (k : ℕ). k + ports_size g.n.locals) p };
         declared = v;
-        ins = rw (append-nil (port_names g.n.inputs)) at (names (inputs_here s f) i [] none);
+        ins = rw (append-nil (port_names g.n.inputs)) at (names (inputs_here s f refl) i [] none);
         noted = rw (opening_parts g.n) (
             noted_append
             (noted_append (a.noted g.model.number g.model.back _ _ _ _ _ [] g.declared) (b.noted g.model.number g.model.back _ _ _ _ _ g.n.inputs t))
@@ -108,13 +106,13 @@ module _ {ks ws sc : List ℕ} {at : ℕ} (g : NodeGiven ks ws sc at) {q : Spot}
 
 -- ---- imported nodes
 
-module _ {num : Name → ℕ} {q : Spot} {o : List ℕ} {n : ℕ} where
+module _ {num : Name → ℕ} {q : Spot} {l : Lines} where
   -- no equations, no line
-  pub imported_none : (qs : List Equation) → length qs ≡ 0 → Noted num q (imported_notes qs) o n n o
+  pub imported_none : (qs : List Equation) → length qs ≡ 0 → Noted num q (imported_notes qs) l l
   imported_none [] h = noted_none
   imported_none (e ∷ qs) h = absurd (let k : suc (length qs) ≡ 0 = h in omega arith)
 
   -- equations have one line
-  pub imported_some : (qs : List Equation) {m : ℕ} {o' : List ℕ} → (length qs ≡ 0 → ⊥) → Noted num q (bare 2 ∷ []) o n m o' → Noted num q (imported_notes qs) o n m o'
+  pub imported_some : (qs : List Equation) {l' : Lines} → (length qs ≡ 0 → ⊥) → Noted num q (bare 2 ∷ []) l l' → Noted num q (imported_notes qs) l l'
   imported_some [] h d = absurd (h refl)
   imported_some (e ∷ qs) h d = d

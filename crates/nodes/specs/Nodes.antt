@@ -12,15 +12,15 @@ use Rattle.input.specs.Depths.{ShallowNode}
 use Rattle.standing.specs.Standing.{source, NodeAt, list_size, equation_size, outputs_from, locals_from, equations_from}
 use Rattle.lines.specs.Lines.{Noted}
 use Rattle.lines.specs.declared.Spot.{Spot}
+use Rattle.lines.specs.declared.Lines.{Lines}
 use Rattle.types.specs.Value.{Naming}
+use Rattle.types.specs.declared.Context.{Context}
 use Rattle.loops.specs.Rows.{has}
 use Rattle.scope.specs.Model.{Model, Numbered}
 use Rattle.scope.specs.Tables.{records, Declared}
 use Rattle.scope.specs.Sets.{Holds}
 use Rattle.scope.specs.Writes.{Reports}
-use Rattle.body.specs.declared.Passed.{Passed}
 use Rattle.nodes.specs.declared.Opened.{Opened}
-use Rattle.nodes.specs.declared.Judged.{Judged}
 
 -- no name has an edge
 pub record Blank (graph : List ℕ) : Type 0 where
@@ -56,33 +56,47 @@ pub record GraphOf {ks ws : List ℕ} (g : Model ks ws) (n : Node) (graph : List
   pub room : length graph ≡ 4096
   pub edges : (a b : ℕ) → a < 512 → b < 512 → has graph a b ≡ (g.text b among read_by (g.text a) n.equations)
 
+-- where the lists of the node n at a record are
+pub record ListsAt (n : Node) (at : ℕ) (r : Opened) : Type 0 where
+  pub inputs : r.inputs ≡ at + 1
+  pub outputs : r.outputs ≡ outputs_from n at
+  pub locals : r.locals ≡ locals_from n at
+  pub equations : r.equations ≡ equations_from n at
+
+-- a node in its check, whose lists are in these places
+pub record InCheck (ks ws sc : List ℕ) (r : Opened) : Type 0 where
+  pub at : ℕ
+  pub node : NodeOpen ks ws sc at
+  pub lists : ListsAt node.n at r
+
+abbrev pub InCheckOf : Context → Opened → Type 0
+InCheckOf x r = InCheck x.records.kinds.now x.records.words.now x.scope.now.entries r
+
 -- what the check of all equations does
-pub record EquationsChecked {ks ws : List ℕ} (g : Model ks ws) (n : Node) (list : ℕ) (q : Spot) (o : List ℕ) (m : ℕ) (r : Passed) (set' graph' o' : List ℕ) : Type 0 where
-  pub next : r.next ≡ list + list_size equation_size n.equations
-  pub reports : Reports g.number q.first (map (of_place q.number) (equations_remarks (context (skeleton g.P)) n (env_of n) [] 0 n.equations)) o m r.n o'
+pub record EquationsChecked {ks ws : List ℕ} (g : Model ks ws) (n : Node) (list : ℕ) (q : Spot) (l : Lines) (r : ℕ) (set' graph' : List ℕ) (l' : Lines) : Type 0 where
+  pub next : r ≡ list + list_size equation_size n.equations
+  pub reports : Reports g.number (map (of_place q.number) (equations_remarks (context (skeleton g.P)) n (env_of n) [] 0 n.equations)) l l'
   pub assigned : Holds g.text (defined n.equations) set'
   pub graph : GraphOf g n graph'
 
 -- what the start of a node's check does
-pub record NodeOpened {ks ws : List ℕ} (g : Model ks ws) (n : Node) (at : ℕ) (q : Spot) (o : List ℕ) (m : ℕ) (r : Opened) (sc' ins' o' : List ℕ) : Type 0 where
-  pub outputs : r.outputs ≡ outputs_from n at
-  pub locals : r.locals ≡ locals_from n at
-  pub equations : r.equations ≡ equations_from n at
+pub record NodeOpened {ks ws : List ℕ} (g : Model ks ws) (n : Node) (at : ℕ) (q : Spot) (l : Lines) (r : Opened) (sc' ins' : List ℕ) (l' : Lines) : Type 0 where
+  pub lists : ListsAt n at r
   pub declared : Declared g (env_of n) sc'
   pub ins : Holds g.text (port_names n.inputs) ins'
-  pub noted : Noted g.number q (opening_notes n) o m r.n o'
+  pub noted : Noted g.number q (opening_notes n) l l'
 
 -- lines and looks of a node
-pub record NodeClosed {ks ws : List ℕ} (g : Model ks ws) (n : Node) (q : Spot) (o : List ℕ) (m : ℕ) (r : Judged) (o' : List ℕ) : Type 0 where
-  pub noted : Noted g.number q (closing_notes n (env_of n)) o m r.n o'
-  pub looked : r.looks ≡ looks n.kind n.equations
-  pub few : r.looks ≤ 262144
+pub record NodeClosed {ks ws : List ℕ} (g : Model ks ws) (n : Node) (q : Spot) (l : Lines) (r : ℕ) (l' : Lines) : Type 0 where
+  pub noted : Noted g.number q (closing_notes n (env_of n)) l l'
+  pub looked : r ≡ looks n.kind n.equations
+  pub few : r ≤ 262144
 
 -- what the check of a node does: its lines, its looks, and nothing is left of it in the scope and in the graph
-pub record NodeChecked {ks ws : List ℕ} (g : Model ks ws) (n : Node) (number first : ℕ) (o : List ℕ) (m : ℕ) (r : Judged) (sc' graph' o' : List ℕ) : Type 0 where
-  pub reports : Reports g.number first (node_lines (context (skeleton g.P)) number n) o m r.n o'
-  pub looked : r.looks ≡ looks n.kind n.equations
-  pub few : r.looks ≤ 262144
+pub record NodeChecked {ks ws : List ℕ} (g : Model ks ws) (n : Node) (number : ℕ) (l : Lines) (r : ℕ) (sc' graph' : List ℕ) (l' : Lines) : Type 0 where
+  pub reports : Reports g.number (node_lines (context (skeleton g.P)) number n) l l'
+  pub looked : r ≡ looks n.kind n.equations
+  pub few : r ≤ 262144
   pub declared : Declared g [] sc'
   pub blank : Blank graph'
 

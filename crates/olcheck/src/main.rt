@@ -4,7 +4,7 @@
 
 ghost use Rattle.std.specs.Prelude.{◌≤◌, length, IfOk};
 
-use response::respond;
+use response::{Status, respond};
 use std::fs::OpenOptions;
 use std::io::{Read, Write};
 use std::os::unix::fs::PermissionsExt;
@@ -21,6 +21,7 @@ const OUT: usize = 175161;
 const DESCRIPTOR: &str = "/proc/self/fd/3";
 
 // Reads until the buffer is full or the input ends, and returns how many bytes it put at its start.
+// Kept: a read may give fewer bytes than are asked for, so the loop goes by the bytes read, which no `for` counts.
 fn read_full(reader: &mut impl Read, buffer: &mut [u8]) -> io::Result<usize>
     ensures { IfOk result (λ n. n ≤ length buffer.new) }
 {
@@ -48,11 +49,11 @@ fn write_digit(rt: &impl Files, digit: &[u8]) -> io::Result<()> {
 }
 
 // Writes the digit of a status; that the descriptor may be closed is no fault.
-fn tell(rt: &impl Files, status: u64) {
+fn tell(rt: &impl Files, status: Status) {
     let digit = match status {
-        0 => b"0",
-        1 => b"1",
-        _ => b"2",
+        Status::Clean => b"0",
+        Status::Errors => b"1",
+        Status::Refused => b"2",
     };
     let _ = write_digit(rt, digit);
 }
@@ -62,8 +63,7 @@ fn main(rt: HostRuntime) -> io::Result<()> {
     let n = read_full(&mut rt.reader(), &mut file)?;
     let mut out = [0u8; OUT];
     let r = respond(&file[..n], &mut out);
-    let size = r.size;
-    rt.write_all(&out[..size])?;
+    rt.write_all(&out[..r.size])?;
     tell(&rt, r.status);
     Ok(())
 }

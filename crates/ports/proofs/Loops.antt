@@ -1,29 +1,37 @@
 -- What the loops over a list of ports or of names keep: what is left of the list, and that what is done for the rest is done for the whole.
 -- Assumes nothing.
 use Rattle.std.specs.Prelude.{if◌then◌else◌}
-use Prim.Native.Nat.{ℕ, ◌+◌, ◌<◌}
+use Rattle.std.specs.Prelude.{Option, Some, None, is_some, MatchOption}
+use Prim.Native.Nat.{ℕ, ◌+◌, ◌-◌, ◌≤◌, ◌<◌}
 use native.Mathlib.Omega.{arith}
 use mathlib.Core.Path.{◌≡◌, refl, sym, ap, ◌∙◌}
 use mathlib.Core.Logic.{⊎_elim}
-use mathlib.Core.Bool.{Bool, true, false, not, ◌||◌}
+use mathlib.Core.Bool.{Bool, true, false, not, ◌||◌, or-true}
 use mathlib.Core.List.{List, [], ◌∷◌, ◌++◌, append_assoc, append-nil}
 use lib.Dec.{eqb}
-use lib.ListN.{length, get_or, set as with}
+use borrow.Author.Tests.{eq-eqb, ne_eqb}
+use lib.ListN.{length, get_or, take, drop, length-take, length-drop, set as with}
+use lib.Seq.{get_or-take, get_or-drop}
 use Rattle.lustre.specs.Name.{Name, ◌is◌, ◌among◌}
-use Rattle.lustre.specs.Types.{Ty, levels}
+use Rattle.lustre.specs.Types.{Ty}
 use Rattle.lustre.specs.Project.{Port, Heading, port_names}
 use Rattle.lustre.specs.Line.{about}
 use Rattle.lustre.specs.Node.{repeated, absent}
 use Rattle.demands.proofs.Sets.{split, mem_eq, mem_ne, mem_snoc}
 use Rattle.standing.specs.Standing.{Source, source, word, EachAt, MentionAt, one_record}
 use Rattle.standing.proofs.Sizes.{First, first, no_items}
-use Rattle.lines.specs.Lines.{Noted}
+use Rattle.lustre.specs.Answer.{no_value}
+use Rattle.lustre.specs.declared.Records.{Records}
+use Rattle.lines.specs.Lines.{Put, Noted}
 use Rattle.lines.specs.declared.Spot.{Spot}
-use Rattle.lines.proofs.Laws.{noted_none, noted_append}
+use Rattle.lines.specs.declared.Lines.{Lines}
+use Rattle.lines.proofs.Laws.{noted_none, noted_append, noted_about}
 use Rattle.loops.specs.Rows.{has, Connected}
 use Rattle.types.specs.Value.{Injective}
-use Rattle.rules.specs.World.{PortsHere}
-use Rattle.rules.proofs.PortLaws.{FirstPort, Left, left_start, left_first, left_next, left_none, left_end}
+use Rattle.rules.specs.World.{PortsOf, source_of}
+use Rattle.rules.specs.Walk.{FirstPort, Walked}
+use Rattle.rules.specs.declared.walk.Ports.{Ports}
+use Rattle.rules.proofs.Walks.{Left, left_start, left_first, left_place, left_name, left_next, left_none, left_end}
 use Rattle.scope.specs.Tables.{Tables, Forgetting}
 use Rattle.scope.specs.Sets.{Holds}
 use Rattle.scope.proofs.Rows.{found_among, names_pairs, tables_port, forgetting_one}
@@ -64,13 +72,9 @@ among_middle : (x y : Name) (xs ys : List Name) → (x among (xs ++ (y ∷ ys)))
 among_middle x y xs ys =
     among_append x xs (y ∷ ys)
     ∙ ⊎_elim
-    (λ (e : (x is y) ≡ true). ap (λ (b : Bool). x among xs || b) (mem_eq ◌is◌ x y ys e) ∙ or_true (x among xs) ∙ sym (mem_eq ◌is◌ x y (xs ++ ys) e))
+    (λ (e : (x is y) ≡ true). ap (λ (b : Bool). x among xs || b) (mem_eq ◌is◌ x y ys e) ∙ or-true (x among xs) ∙ sym (mem_eq ◌is◌ x y (xs ++ ys) e))
     (λ (e : (x is y) ≡ false). ap (λ (b : Bool). x among xs || b) (mem_ne ◌is◌ x y ys e) ∙ sym (mem_ne ◌is◌ x y (xs ++ ys) e ∙ among_append x xs ys))
     (split (x is y))
-  where
-    or_true : (b : Bool) → (b || true) ≡ true
-    or_true true = refl
-    or_true false = refl
 
 -- ---- notes
 
@@ -121,117 +125,134 @@ module _ (code : ℕ) (known : List Name) (a : Name) where
   unfolding absent
   absent_unknown h = rw h
 
+-- ---- walks
+
+-- a walk is at the start of a list, as `ports_of` gives it
+abbrev pub AtStart : Records → ℕ → Ports → Type 0
+AtStart r list w = (w.records.now ≡ r) × (w.at ≡ list + 1) × (w.left ≡ get_or r.words.now list 0)
+
 -- ---- names that are not known
 
 -- the ports that are left, and that the notes on those of them that a set lacks complete the notes on the list
-pub record Lacking (ks ws : List ℕ) (list next left : ℕ) (g : PortsHere ks ws list) (known : List ℕ) (code : ℕ) (q : Spot) (o : List ℕ) (n : ℕ) (out : List ℕ) (m : ℕ) : Type 0 where
-  pub ports : Left ks ws list next left g
-  pub rest : (num : Name → ℕ) → Numbers g.text num → (xs : List Name) → Holds g.text xs known → {m' : ℕ} {o' : List ℕ}
-      → Noted num q (absent code xs (port_names ports.rest)) out m m' o' → Noted num q (absent code xs (port_names g.ps)) o n m' o'
+pub record Lacking (r : Records) {list : ℕ} (g : PortsOf r list) (w : Ports) (known : List ℕ) (code : ℕ) (q : Spot) (o l : Lines) : Type 0 where
+  pub ports : Left r g w
+  pub rest : (num : Name → ℕ) → Numbers g.text num → (xs : List Name) → Holds g.text xs known → {l' : Lines}
+      → Noted num q (absent code xs (port_names ports.rest)) l l' → Noted num q (absent code xs (port_names g.ps)) o l'
 
 -- before the first
-pub lacking_start : {ks ws : List ℕ} {list : ℕ} (g : PortsHere ks ws list) {known : List ℕ} {code : ℕ} {q : Spot} {o : List ℕ} {n : ℕ}
-    → Lacking ks ws list (list + 1) (get_or ws list 0) g known code q o n o n
-lacking_start g = record { ports = left_start g; rest = λ num b xs k d. d }
+pub lacking_start : {r : Records} {list : ℕ} (g : PortsOf r list) {w : Ports} {known : List ℕ} {code : ℕ} {q : Spot} {o : Lines}
+    → AtStart r list w → Lacking r g w known code q o o
+lacking_start {r} g e = record { ports = left_start r g e; rest = λ num b xs k d. d }
 
-module _ {ks ws : List ℕ} {list next left : ℕ} {g : PortsHere ks ws list} {known : List ℕ} {code : ℕ} {q : Spot} {o : List ℕ} {n : ℕ} {out : List ℕ} {m : ℕ}
-    (l : Lacking ks ws list next left g known code q o n out m) where
-  -- one more
-  pub lacking_next : (h : left ≡ 0 → ⊥) {out₁ : List ℕ} {m₁ e i : ℕ}
-      → ((num : Name → ℕ) (x : Name) (xs : List Name) → num x ≡ get_or ws next 0 → has known 0 (get_or ws next 0) ≡ (x among xs) → Noted num q (absent code xs (x ∷ [])) out m m₁ out₁)
-      → e ≡ next + 1 + levels (left_first l.ports h).p.1 → i + 1 ≡ left → Lacking ks ws list e i g known code q o n out₁ m₁
-  lacking_next h d c k = record {
-    ports = left_next l.ports h c k;
-    rest = λ num b xs t s. l.rest num b xs t (
-        let f = left_first l.ports h in
-        let w : has known 0 (get_or ws next 0) ≡ (f.p.0 among xs) = t.each (get_or ws next 0) f.name.small ∙ ap (λ (x : Name). x among xs) f.name.text in
-        rw (names_more f.p f.others f.are, absent_more code xs f.p.0 (port_names f.others))
-        (noted_append (d num f.p.0 xs (rw (← f.name.text) (b (get_or ws next 0))) w) s));
-  }
+module _ {r : Records} {list : ℕ} {g : PortsOf r list} {w : Ports} {known : List ℕ} {code : ℕ} {q : Spot} {o l : Lines} where
+  module _ (h : Lacking r g w known code q o l) {v : Ports} {p : ℕ × ℕ} (d : Walked w (Some p) v) where
+    -- whether a list of names has the first port's name is whether the set has it
+    member : (xs : List Name) → Holds g.text xs known → has known 0 p.0 ≡ ((left_first h.ports d).p.0 among xs)
+    member xs t = let f = left_first h.ports d in rw (left_name h.ports d) (t.each (word (source_of r g.text) w.at) f.name.small ∙ ap (λ (x : Name). x among xs) f.name.text)
+
+    -- one more, which has a note or none
+    pub lacking_known : has known 0 p.0 ≡ true → Lacking r g v known code q o l
+    lacking_known e = record {
+      ports = left_next h.ports d;
+      rest = λ num b xs t s. h.rest num b xs t (
+          let f = left_first h.ports d in
+          rw (names_more f.p f.others f.are, absent_more code xs f.p.0 (port_names f.others), absent_known code xs f.p.0 (sym (member xs t) ∙ e)) s);
+    }
+
+    pub lacking_unknown : has known 0 p.0 ≡ false → {l₁ : Lines} → Put q code no_value p.0 l l₁ → Lacking r g v known code q o l₁
+    lacking_unknown e m = record {
+      ports = left_next h.ports d;
+      rest = λ num b xs t s. h.rest num b xs t (
+          let f = left_first h.ports d in
+          rw (names_more f.p f.others f.are, absent_more code xs f.p.0 (port_names f.others), absent_unknown code xs f.p.0 (sym (member xs t) ∙ e))
+          (noted_append (noted_about f.p.0 (rw (← f.name.text) (b (word (source_of r g.text) w.at)) ∙ sym (left_name h.ports d)) m) s));
+    }
 
   -- none is left
-  pub lacking_end : left ≡ 0 → (num : Name → ℕ) → Numbers g.text num → (xs : List Name) → Holds g.text xs known → Noted num q (absent code xs (port_names g.ps)) o n m out
-  lacking_end z num b xs t = l.rest num b xs t (rw (names_none (left_none l.ports z), absent_none code xs) noted_none)
+  pub lacking_end : (h : Lacking r g w known code q o l) {v : Ports} → Walked w None v → (num : Name → ℕ) → Numbers g.text num → (xs : List Name) → Holds g.text xs known
+      → Noted num q (absent code xs (port_names g.ps)) o l
+  lacking_end h d num b xs t = h.rest num b xs t (rw (names_none (left_none h.ports d), absent_none code xs) noted_none)
 
 -- ---- names added to a set
 
 -- the ports that are left, and that a set that adds their names to the present one adds the names of the list to the first
-pub record Adding (ks ws : List ℕ) (list next left : ℕ) (g : PortsHere ks ws list) (set₀ set : List ℕ) : Type 0 where
-  pub ports : Left ks ws list next left g
+pub record Adding (r : Records) {list : ℕ} (g : PortsOf r list) (w : Ports) (set₀ set : List ℕ) : Type 0 where
+  pub ports : Left r g w
   pub rest : {set' : List ℕ} → ((xs : List Name) → Holds g.text xs set → Holds g.text (port_names ports.rest ++ xs) set')
       → (xs : List Name) → Holds g.text xs set₀ → Holds g.text (port_names g.ps ++ xs) set'
 
 -- before the first
-pub adding_start : {ks ws : List ℕ} {list : ℕ} (g : PortsHere ks ws list) {set : List ℕ} → Adding ks ws list (list + 1) (get_or ws list 0) g set set
-adding_start g = record { ports = left_start g; rest = λ k. k }
+pub adding_start : {r : Records} {list : ℕ} (g : PortsOf r list) {w : Ports} {set : List ℕ}
+    → AtStart r list w → Adding r g w set set
+adding_start {r} g e = record { ports = left_start r g e; rest = λ k. k }
 
-module _ {ks ws : List ℕ} {list next left : ℕ} {g : PortsHere ks ws list} {set₀ set : List ℕ} (l : Adding ks ws list next left g set₀ set) where
+module _ {r : Records} {list : ℕ} {g : PortsOf r list} {w v : Ports} {set₀ set : List ℕ} (l : Adding r g w set₀ set) where
   -- one more
-  pub adding_next : Injective g.text → (h : left ≡ 0 → ⊥) {set₁ : List ℕ} {e i : ℕ} → Connected set 0 (get_or ws next 0) set₁
-      → e ≡ next + 1 + levels (left_first l.ports h).p.1 → i + 1 ≡ left → Adding ks ws list e i g set₀ set₁
-  adding_next inj h d c k = record {
-    ports = left_next l.ports h c k;
+  pub adding_next : Injective g.text → {p : ℕ × ℕ} (d : Walked w (Some p) v) {set₁ : List ℕ} → Connected set 0 p.0 set₁ → Adding r g v set₀ set₁
+  adding_next inj d e = record {
+    ports = left_next l.ports d;
     rest = λ s. l.rest (λ xs t.
-        let f = left_first l.ports h in
-        let u : Holds g.text (f.p.0 ∷ xs) _ = rw (← f.name.text) (holds_add inj f.name.small d t) in
+        let f = left_first l.ports d in
+        let u : Holds g.text (f.p.0 ∷ xs) _ = rw (← f.name.text) (holds_add inj f.name.small (rw (left_name l.ports d) at e) t) in
         rw (names_more f.p f.others f.are) (holds_same (λ x. among_middle x f.p.0 (port_names f.others) xs) (s (f.p.0 ∷ xs) u)));
   }
 
   -- none is left
-  pub adding_end : left ≡ 0 → (xs : List Name) → Holds g.text xs set₀ → Holds g.text (port_names g.ps ++ xs) set
-  adding_end z = l.rest (λ xs t. rw (names_none (left_none l.ports z)) t)
+  pub adding_end : Walked w None v → (xs : List Name) → Holds g.text xs set₀ → Holds g.text (port_names g.ps ++ xs) set
+  adding_end d = l.rest (λ xs t. rw (names_none (left_none l.ports d)) t)
 
 -- ---- ports taken out of the scope
 
 -- the ports that are left, and that only they are still to be taken out
-pub record Leaving (ks ws : List ℕ) (list next left : ℕ) (g : PortsHere ks ws list) (sc₀ sc : List ℕ) : Type 0 where
-  pub ports : Left ks ws list next left g
+pub record Leaving (r : Records) {list : ℕ} (g : PortsOf r list) (w : Ports) (sc₀ sc : List ℕ) : Type 0 where
+  pub ports : Left r g w
   pub done : (as' : List (Name × Ty)) (rs : List (Name × List Port)) (vs : List (Name × Name)) (cs : List (Name × Ty)) (ns : List (Name × Heading)) (xs : List Name)
-      → Forgetting (source ks ws g.text) as' rs vs cs ns (port_names g.ps ++ xs) sc₀ → Forgetting (source ks ws g.text) as' rs vs cs ns (port_names ports.rest ++ xs) sc
+      → Forgetting (source_of r g.text) as' rs vs cs ns (port_names g.ps ++ xs) sc₀ → Forgetting (source_of r g.text) as' rs vs cs ns (port_names ports.rest ++ xs) sc
 
 -- before the first
-pub leaving_start : {ks ws : List ℕ} {list : ℕ} (g : PortsHere ks ws list) {sc : List ℕ} → Leaving ks ws list (list + 1) (get_or ws list 0) g sc sc
-leaving_start g = record { ports = left_start g; done = λ as' rs vs cs ns xs k. k }
+pub leaving_start : {r : Records} {list : ℕ} (g : PortsOf r list) {w : Ports} {sc : List ℕ}
+    → AtStart r list w → Leaving r g w sc sc
+leaving_start {r} g e = record { ports = left_start r g e; done = λ as' rs vs cs ns xs k. k }
 
-module _ {ks ws : List ℕ} {list next left : ℕ} {g : PortsHere ks ws list} {sc₀ sc : List ℕ} (l : Leaving ks ws list next left g sc₀ sc) where
+module _ {r : Records} {list : ℕ} {g : PortsOf r list} {w v : Ports} {sc₀ sc : List ℕ} (l : Leaving r g w sc₀ sc) where
   -- one more
-  pub leaving_next : Injective g.text → (h : left ≡ 0 → ⊥) {sc₁ : List ℕ} {e i : ℕ} → sc₁ ≡ with sc (get_or ws next 0 + 2560) 0
-      → e ≡ next + 1 + levels (left_first l.ports h).p.1 → i + 1 ≡ left → Leaving ks ws list e i g sc₀ sc₁
-  leaving_next inj h d c k = record {
-    ports = left_next l.ports h c k;
+  pub leaving_next : Injective g.text → {p : ℕ × ℕ} (d : Walked w (Some p) v) → Leaving r g v sc₀ (with sc (p.0 + 2560) 0)
+  leaving_next inj {p} d = record {
+    ports = left_next l.ports d;
     done = λ as' rs vs cs ns xs t.
-        let f = left_first l.ports h in
-        let q : port_names l.ports.rest ++ xs ≡ g.text (get_or ws next 0) ∷ (port_names f.others ++ xs) = rw (names_more f.p f.others f.are, f.name.text) in
-        rw d (forgetting_one (get_or ws next 0) inj f.name.small (rw q at (l.done as' rs vs cs ns xs t)));
+        let f = left_first l.ports d in
+        let n : ℕ = word (source_of r g.text) w.at in
+        let q : port_names l.ports.rest ++ xs ≡ g.text n ∷ (port_names f.others ++ xs) = rw (names_more f.p f.others f.are, f.name.text) in
+        rw (left_name l.ports d) (forgetting_one n inj f.name.small (rw q at (l.done as' rs vs cs ns xs t)));
   }
 
   -- none is left
-  pub leaving_end : left ≡ 0 → (as' : List (Name × Ty)) (rs : List (Name × List Port)) (vs : List (Name × Name)) (cs : List (Name × Ty)) (ns : List (Name × Heading)) (xs : List Name)
-      → Forgetting (source ks ws g.text) as' rs vs cs ns (port_names g.ps ++ xs) sc₀ → Forgetting (source ks ws g.text) as' rs vs cs ns xs sc
-  leaving_end z as' rs vs cs ns xs t =
-      let q : port_names l.ports.rest ++ xs ≡ xs = rw (names_none (left_none l.ports z)) in
+  pub leaving_end : Walked w None v → (as' : List (Name × Ty)) (rs : List (Name × List Port)) (vs : List (Name × Name)) (cs : List (Name × Ty)) (ns : List (Name × Heading)) (xs : List Name)
+      → Forgetting (source_of r g.text) as' rs vs cs ns (port_names g.ps ++ xs) sc₀ → Forgetting (source_of r g.text) as' rs vs cs ns xs sc
+  leaving_end d as' rs vs cs ns xs t =
+      let q : port_names l.ports.rest ++ xs ≡ xs = rw (names_none (left_none l.ports d)) in
       rw q at (l.done as' rs vs cs ns xs t)
 
 -- ---- ports entered into the scope
 
 -- the ports in force, with which and with the ports `rest` the ports env and `all` are complete, and so are the notes
-pub record Entered (S : Source) (all rest : List Port) (code : ℕ) (q : Spot) (o : List ℕ) (n : ℕ) (sc out : List ℕ) (m : ℕ) (as' : List (Name × Ty)) (rs : List (Name × List Port)) (vs : List (Name × Name)) (cs : List (Name × Ty)) (ns : List (Name × Heading)) (env : List Port) : Type 0 where
+pub record Entered (S : Source) (all rest : List Port) (code : ℕ) (q : Spot) (o : Lines) (sc : List ℕ) (l : Lines) (as' : List (Name × Ty)) (rs : List (Name × List Port)) (vs : List (Name × Name)) (cs : List (Name × Ty)) (ns : List (Name × Heading)) (env : List Port) : Type 0 where
   pub force : List Port
   pub tables : Tables S as' rs vs cs ns force sc
   pub whole : force ++ rest ≡ env ++ all
-  pub noted : (num : Name → ℕ) → Numbers S.text num → {m' : ℕ} {o' : List ℕ}
-      → Noted num q (repeated code (port_names force) (port_names rest)) out m m' o' → Noted num q (repeated code (port_names env) (port_names all)) o n m' o'
+  pub noted : (num : Name → ℕ) → Numbers S.text num → {l' : Lines}
+      → Noted num q (repeated code (port_names force) (port_names rest)) l l' → Noted num q (repeated code (port_names env) (port_names all)) o l'
 
 -- the ports that are left, and that for all tables the others are entered
-pub record Entering (ks ws : List ℕ) (list next left : ℕ) (g : PortsHere ks ws list) (code : ℕ) (q : Spot) (sc₀ o : List ℕ) (n : ℕ) (sc out : List ℕ) (m : ℕ) : Type 0 where
-  pub ports : Left ks ws list next left g
+pub record Entering (r : Records) {list : ℕ} (g : PortsOf r list) (w : Ports) (code : ℕ) (q : Spot) (sc₀ : List ℕ) (o : Lines) (sc : List ℕ) (l : Lines) : Type 0 where
+  pub ports : Left r g w
   pub so_far : (as' : List (Name × Ty)) (rs : List (Name × List Port)) (vs : List (Name × Name)) (cs : List (Name × Ty)) (ns : List (Name × Heading)) (env : List Port)
-      → Tables (source ks ws g.text) as' rs vs cs ns env sc₀ → Entered (source ks ws g.text) g.ps ports.rest code q o n sc out m as' rs vs cs ns env
+      → Tables (source_of r g.text) as' rs vs cs ns env sc₀ → Entered (source_of r g.text) g.ps ports.rest code q o sc l as' rs vs cs ns env
 
 -- before the first
-pub entering_start : {ks ws : List ℕ} {list : ℕ} (g : PortsHere ks ws list) {code : ℕ} {q : Spot} {sc o : List ℕ} {n : ℕ}
-    → Entering ks ws list (list + 1) (get_or ws list 0) g code q sc o n sc o n
-entering_start g = record { ports = left_start g; so_far = λ as' rs vs cs ns env T. record { force = env; tables = T; whole = refl; noted = λ num b d. d } }
+pub entering_start : {r : Records} {list : ℕ} (g : PortsOf r list) {w : Ports} {code : ℕ} {q : Spot} {sc : List ℕ} {o : Lines}
+    → AtStart r list w → Entering r g w code q sc o sc o
+entering_start {r} g e = record { ports = left_start r g e; so_far = λ as' rs vs cs ns env T. record { force = env; tables = T; whole = refl; noted = λ num b d. d } }
 
 -- an entry of the table of ports is 0 exactly if no port has the name
 port_entry : {S : Source} {as' : List (Name × Ty)} {rs : List (Name × List Port)} {vs : List (Name × Name)} {cs : List (Name × Ty)} {ns : List (Name × Heading)} {env : List Port} {sc : List ℕ}
@@ -251,10 +272,10 @@ seen_more code force p as' =
     (λ x. sym (ap (λ (l : List Name). x among l) (names_append force (p ∷ [])) ∙ mem_snoc ◌is◌ x p.0 (port_names force)))
 
 -- one port more
-entered_next : {S : Source} {all rest : List Port} {code : ℕ} {q : Spot} {o : List ℕ} {n : ℕ} {sc out : List ℕ} {m : ℕ} {as' : List (Name × Ty)} {rs : List (Name × List Port)} {vs : List (Name × Name)} {cs : List (Name × Ty)} {ns : List (Name × Heading)} {env : List Port} {at k : ℕ} {out₁ : List ℕ} {m₁ : ℕ}
-    → Injective S.text → (f : FirstPort S rest at k)
-    → ((num : Name → ℕ) (x : Name) → num x ≡ word S at → Noted num q (if eqb (get_or sc (word S at + 2560) 0) 0 then [] else about code x ∷ []) out m m₁ out₁)
-    → Entered S all rest code q o n sc out m as' rs vs cs ns env → Entered S all f.others code q o n (with sc (word S at + 2560) (at + 1)) out₁ m₁ as' rs vs cs ns env
+entered_next : {S : Source} {all rest : List Port} {code : ℕ} {q : Spot} {o : Lines} {sc : List ℕ} {l : Lines} {as' : List (Name × Ty)} {rs : List (Name × List Port)} {vs : List (Name × Name)} {cs : List (Name × Ty)} {ns : List (Name × Heading)} {env : List Port} {at next left : ℕ} {l₁ : Lines}
+    → Injective S.text → (f : FirstPort S rest at next left)
+    → ((num : Name → ℕ) (x : Name) → num x ≡ word S at → Noted num q (if eqb (get_or sc (word S at + 2560) 0) 0 then [] else about code x ∷ []) l l₁)
+    → Entered S all rest code q o sc l as' rs vs cs ns env → Entered S all f.others code q o (with sc (word S at + 2560) (at + 1)) l₁ as' rs vs cs ns env
 entered_next {S} {rest = rest} {code = code} {at = at} inj f d e =
     let w : ℕ = word S at in
     let p : Port = (S.text w, f.p.1) in
@@ -268,77 +289,115 @@ entered_next {S} {rest = rest} {code = code} {at = at} inj f d e =
           (noted_append (d num (S.text w) (b w)) s));
     }
 
-module _ {ks ws : List ℕ} {list next left : ℕ} {g : PortsHere ks ws list} {code : ℕ} {q : Spot} {sc₀ o : List ℕ} {n : ℕ} {sc out : List ℕ} {m : ℕ}
-    (l : Entering ks ws list next left g code q sc₀ o n sc out m) where
+module _ {r : Records} {list : ℕ} {g : PortsOf r list} {w v : Ports} {code : ℕ} {q : Spot} {sc₀ : List ℕ} {o : Lines} {sc : List ℕ} {l : Lines}
+    (h : Entering r g w code q sc₀ o sc l) where
   -- one more
-  pub entering_next : Injective g.text → (h : left ≡ 0 → ⊥) {sc₁ out₁ : List ℕ} {m₁ e i : ℕ}
-      → ((num : Name → ℕ) (x : Name) → num x ≡ get_or ws next 0 → Noted num q (if eqb (get_or sc (get_or ws next 0 + 2560) 0) 0 then [] else about code x ∷ []) out m m₁ out₁)
-      → sc₁ ≡ with sc (get_or ws next 0 + 2560) (next + 1)
-      → e ≡ next + 1 + levels (left_first l.ports h).p.1 → i + 1 ≡ left → Entering ks ws list e i g code q sc₀ o n sc₁ out₁ m₁
-  entering_next inj h d r c k = record {
-    ports = left_next l.ports h c k;
-    so_far = λ as' rs vs cs ns env T. rw r (entered_next inj (left_first l.ports h) d (l.so_far as' rs vs cs ns env T));
+  pub entering_next : Injective g.text → {p : ℕ × ℕ} (d : Walked w (Some p) v) {sc₁ : List ℕ} {l₁ : Lines}
+      → ((num : Name → ℕ) (x : Name) → num x ≡ p.0 → Noted num q (if eqb (get_or sc (p.0 + 2560) 0) 0 then [] else about code x ∷ []) l l₁)
+      → sc₁ ≡ with sc (p.0 + 2560) (p.1 + 1) → Entering r g v code q sc₀ o sc₁ l₁
+  entering_next inj d m e = record {
+    ports = left_next h.ports d;
+    so_far = λ as' rs vs cs ns env T.
+        rw (e, left_place h.ports d, left_name h.ports d)
+        (entered_next inj (left_first h.ports d) (rw (left_name h.ports d) at m) (h.so_far as' rs vs cs ns env T));
   }
 
   -- none is left
-  pub entering_end : left ≡ 0 → PortsEntered (source ks ws g.text) g.ps list code q sc₀ o n (record { next = next; n = m }) sc out
-  entering_end z = record {
-    next = left_end l.ports z;
+  pub entering_end : Walked w None v → PortsEntered (source_of r g.text) g.ps list code q sc₀ o v.at sc l
+  entering_end d = record {
+    next = left_end h.ports d;
     tables = λ as' rs vs cs ns env T.
-        let e = l.so_far as' rs vs cs ns env T in
-        let w : e.force ≡ env ++ g.ps = sym (append-nil e.force) ∙ ap (λ (ps : List Port). e.force ++ ps) (sym (left_none l.ports z)) ∙ e.whole in
-        rw w at e.tables;
+        let e = h.so_far as' rs vs cs ns env T in
+        let y : e.force ≡ env ++ g.ps = sym (append-nil e.force) ∙ ap (λ (ps : List Port). e.force ++ ps) (sym (left_none h.ports d)) ∙ e.whole in
+        rw y at e.tables;
     noted = λ num b as' rs vs cs ns env T.
-        let e = l.so_far as' rs vs cs ns env T in
-        e.noted num b (rw (names_none (left_none l.ports z), repeated_none code (port_names e.force)) noted_none);
+        let e = h.so_far as' rs vs cs ns env T in
+        e.noted num b (rw (names_none (left_none h.ports d), repeated_none code (port_names e.force)) noted_none);
   }
 
 -- ---- probes that are not in force
 
--- the names that are left of a list of names, and that the notes on them complete the notes on the list
-pub record Probing (ws : List ℕ) (list next left : ℕ) (g : NamesHere ws list) (sc : List ℕ) (q : Spot) (o : List ℕ) (n : ℕ) (out : List ℕ) (m : ℕ) : Type 0 where
-  pub xs : List Name
-  pub stand : EachAt (MentionAt (source g.ks ws g.text)) one_record xs next
-  pub many : length xs ≡ left
-  pub rest : (num : Name → ℕ) → Numbers g.text num
-      → (as' : List (Name × Ty)) (rs : List (Name × List Port)) (vs : List (Name × Name)) (cs : List (Name × Ty)) (ns : List (Name × Heading)) (env : List Port)
-      → Tables (source g.ks ws g.text) as' rs vs cs ns env sc → {m' : ℕ} {o' : List ℕ}
-      → Noted num q (absent 150 (port_names env) xs) out m m' o' → Noted num q (absent 150 (port_names env) g.xs) o n m' o'
+-- what an answer of `declared` says where it is none, and where it is not
+pub at_none : {e : ℕ} {b : Bool} (r : Option ℕ) → is_some r ≡ not b → b ≡ true → MatchOption r (e ≡ 0) (λ p. e ≡ p + 1) → e ≡ 0
+at_none None q h m = m
+at_none {b = b} (Some p) q h m = let z : not b ≡ not true = ap not h in cc
 
--- before the first
-pub probing_start : {ws : List ℕ} {list : ℕ} (g : NamesHere ws list) {sc : List ℕ} {q : Spot} {o : List ℕ} {n : ℕ}
-    → Probing ws list (list + 1) (get_or ws list 0) g sc q o n o n
-probing_start g = record { xs = g.xs; stand = g.listed.items; many = sym g.listed.many; rest = λ num b as' rs vs cs ns env T d. d }
+pub at_some : {e : ℕ} {b : Bool} (r : Option ℕ) → is_some r ≡ not b → b ≡ false → MatchOption r (e ≡ 0) (λ p. e ≡ p + 1) → (p : ℕ) × (e ≡ p + 1)
+at_some {b = b} None q h m = let z : not b ≡ not false = ap not h in cc
+at_some (Some p) q h m = (p, m)
+
+-- names end within the records
+each_within : (S : Source) (xs : List Name) (at : ℕ) → at ≤ length S.ws → EachAt (MentionAt S) one_record xs at → at + length xs ≤ length S.ws
+unfolding EachAt
+each_within S [] at h s = omega arith
+each_within S (x ∷ xs) at h s = let r = each_within S xs (at + 1) (omega (arith, s.0.head.in_words)) s.1 in omega arith
+
+-- and so does a list of them
+pub names_within : {ws : List ℕ} {list : ℕ} (g : NamesHere ws list) → list + 1 + get_or ws list 0 ≤ length ws
+names_within {ws} {list} g =
+    let end = each_within (source g.ks ws g.text) g.xs (list + 1) (omega (arith, g.listed.head.in_words)) g.listed.items in
+    omega (arith, g.listed.many)
+
+-- a word of the part of the words that has a list's names
+pub probe_word : {ws : List ℕ} {list : ℕ} (g : NamesHere ws list) (k : ℕ) → k < get_or ws list 0
+    → get_or (take (list + 1 + get_or ws list 0 - (list + 1)) (drop (list + 1) ws)) k 0 ≡ get_or ws (list + 1 + k) 0
+probe_word {ws} {list} g k h = get_or-take (list + 1 + get_or ws list 0 - (list + 1)) (drop (list + 1) ws) k 0 (omega arith) ∙ get_or-drop (list + 1) ws k 0
+
+pub probe_count : {ws : List ℕ} {list : ℕ} (g : NamesHere ws list) → length (take (list + 1 + get_or ws list 0 - (list + 1)) (drop (list + 1) ws)) ≡ get_or ws list 0
+probe_count g = omega (arith, length-take {A = ℕ}, length-drop {A = ℕ}, names_within g)
 
 -- the note on one name, by a test
 absent_one : (code : ℕ) (known : List Name) (a : Name) → absent code known (a ∷ []) ≡ (if a among known then [] else about code a ∷ [])
 unfolding absent
 absent_one code known a = refl
 
-module _ {ws : List ℕ} {list next left : ℕ} {g : NamesHere ws list} {sc : List ℕ} {q : Spot} {o : List ℕ} {n : ℕ} {out : List ℕ} {m : ℕ}
-    (l : Probing ws list next left g sc q o n out m) where
-  -- the first that is left
-  abbrev pub probing_first : (left ≡ 0 → ⊥) → First (MentionAt (source g.ks ws g.text)) one_record l.xs next left
-  probing_first h = first (MentionAt (source g.ks ws g.text)) one_record l.xs next left l.many h l.stand
+-- the names that are left of a list of names behind k of them, and that the notes on them complete the notes on the list
+pub record Probing {ws : List ℕ} {list : ℕ} (g : NamesHere ws list) (k : ℕ) (sc : List ℕ) (q : Spot) (o l : Lines) : Type 0 where
+  pub xs : List Name
+  pub stand : EachAt (MentionAt (source g.ks ws g.text)) one_record xs (list + 1 + k)
+  pub many : k + length xs ≡ get_or ws list 0
+  pub rest : (num : Name → ℕ) → Numbers g.text num
+      → (as' : List (Name × Ty)) (rs : List (Name × List Port)) (vs : List (Name × Name)) (cs : List (Name × Ty)) (ns : List (Name × Heading)) (env : List Port)
+      → Tables (source g.ks ws g.text) as' rs vs cs ns env sc → {l' : Lines}
+      → Noted num q (absent 150 (port_names env) xs) l l' → Noted num q (absent 150 (port_names env) g.xs) o l'
 
-  -- one more
-  pub probing_next : (left ≡ 0 → ⊥) → {out₁ : List ℕ} {m₁ i : ℕ}
-      → ((num : Name → ℕ) (x : Name) → num x ≡ get_or ws next 0 → Noted num q (if eqb (get_or sc (get_or ws next 0 + 2560) 0) 0 then about 150 x ∷ [] else []) out m m₁ out₁)
-      → i + 1 ≡ left → Probing ws list (next + 1) i g sc q o n out₁ m₁
-  probing_next h {i = i} d k =
-      let f = probing_first h in
-      let w : ℕ = get_or ws next 0 in
-      record {
-        xs = f.rest;
-        stand = f.rest_at;
-        many = omega (arith, f.fewer);
-        rest = λ num b as' rs vs cs ns env T s. l.rest num b as' rs vs cs ns env T (
-            rw (f.is, ← f.x_at.name.text, absent_more 150 (port_names env) (g.text w) f.rest, absent_one 150 (port_names env) (g.text w), ← if_not (g.text w among port_names env) (about 150 (g.text w) ∷ []) [], ← port_entry T w f.x_at.name.small)
-            (noted_append (d num (g.text w) (b w)) s));
-      }
+-- before the first
+pub probing_start : {ws : List ℕ} {list : ℕ} (g : NamesHere ws list) {sc : List ℕ} {q : Spot} {o : Lines} → Probing g 0 sc q o o
+probing_start {list = list} g =
+    let z : list + 1 + 0 ≡ list + 1 = omega arith in
+    record { xs = g.xs; stand = rw z g.listed.items; many = omega (arith, g.listed.many); rest = λ num b as' rs vs cs ns env T d. d }
+
+module _ {ws : List ℕ} {list k : ℕ} {g : NamesHere ws list} {sc : List ℕ} {q : Spot} {o l : Lines} (h : Probing g k sc q o l) where
+  -- the first that is left
+  abbrev pub probing_first : k < get_or ws list 0 → First (MentionAt (source g.ks ws g.text)) one_record h.xs (list + 1 + k) (get_or ws list 0 - k)
+  probing_first b = first (MentionAt (source g.ks ws g.text)) one_record h.xs (list + 1 + k) (get_or ws list 0 - k) (omega (arith, h.many)) (λ z. omega arith) h.stand
+
+  module _ (b : k < get_or ws list 0) where
+    -- one more
+    probing_next : {l₁ : Lines} → ((num : Name → ℕ) → num (g.text (get_or ws (list + 1 + k) 0)) ≡ get_or ws (list + 1 + k) 0
+        → Noted num q (if eqb (get_or sc (get_or ws (list + 1 + k) 0 + 2560) 0) 0 then about 150 (g.text (get_or ws (list + 1 + k) 0)) ∷ [] else []) l l₁) → Probing g (k + 1) sc q o l₁
+    probing_next d =
+        let f = probing_first b in
+        let w : ℕ = get_or ws (list + 1 + k) 0 in
+        let z : list + 1 + k + 1 ≡ list + 1 + (k + 1) = omega arith in
+        record {
+          xs = f.rest;
+          stand = rw z at f.rest_at;
+          many = omega (arith, f.fewer, h.many);
+          rest = λ num b as' rs vs cs ns env T s. h.rest num b as' rs vs cs ns env T (
+              rw (f.is, ← f.x_at.name.text, absent_more 150 (port_names env) (g.text w) f.rest, absent_one 150 (port_names env) (g.text w), ← if_not (g.text w among port_names env) (about 150 (g.text w) ∷ []) [], ← port_entry T w f.x_at.name.small)
+              (noted_append (d num (b w)) s));
+        }
+
+    -- whose name is in force, or is not
+    pub probing_known : (p : ℕ) → get_or sc (get_or ws (list + 1 + k) 0 + 2560) 0 ≡ p + 1 → Probing g (k + 1) sc q o l
+    probing_known p e = probing_next (λ num c. rw (ne_eqb (get_or sc (get_or ws (list + 1 + k) 0 + 2560) 0) 0 (λ z. omega arith)) noted_none)
+
+    pub probing_unknown : get_or sc (get_or ws (list + 1 + k) 0 + 2560) 0 ≡ 0 → {l₁ : Lines} → Put q 150 no_value (get_or ws (list + 1 + k) 0) l l₁ → Probing g (k + 1) sc q o l₁
+    probing_unknown e m = probing_next (λ num c. rw (eq-eqb (get_or sc (get_or ws (list + 1 + k) 0 + 2560) 0) 0 e) (noted_about (g.text (get_or ws (list + 1 + k) 0)) c m))
 
   -- none is left
-  pub probing_end : left ≡ 0 → (num : Name → ℕ) → Numbers g.text num
+  pub probing_end : k ≡ get_or ws list 0 → (num : Name → ℕ) → Numbers g.text num
       → (as' : List (Name × Ty)) (rs : List (Name × List Port)) (vs : List (Name × Name)) (cs : List (Name × Ty)) (ns : List (Name × Heading)) (env : List Port)
-      → Tables (source g.ks ws g.text) as' rs vs cs ns env sc → Noted num q (absent 150 (port_names env) g.xs) o n m out
-  probing_end z num b as' rs vs cs ns env T = l.rest num b as' rs vs cs ns env T (rw (no_items l.xs (l.many ∙ z), absent_none 150 (port_names env)) noted_none)
+      → Tables (source g.ks ws g.text) as' rs vs cs ns env sc → Noted num q (absent 150 (port_names env) g.xs) o l
+  probing_end z num b as' rs vs cs ns env T = h.rest num b as' rs vs cs ns env T (rw (no_items h.xs (omega (arith, h.many)), absent_none 150 (port_names env)) noted_none)

@@ -2,156 +2,97 @@
 // own lists cost; and the lines on names that repeat or are wanting: lib.rs 353 to 376, 475 to 492 and 510 to 520.
 #![tactic(auto)]
 
-ghost use Rattle.std.specs.Prelude.{ℕ, ◌+◌, ◌<◌, ◌≤◌, ◌≡◌, List, [], ◌∷◌, ◌++◌, eqb, length, get_or, if◌then◌else◌};
-ghost use Rattle.lustre.specs.Name.{Name, ◌among◌};
+ghost use Rattle.std.specs.Prelude.{ℕ, ◌+◌, ◌<◌, ◌≤◌, ◌≡◌, List, [], ◌∷◌, ◌++◌, length};
+ghost use Rattle.lustre.specs.Name.{Name};
 ghost use Rattle.lustre.specs.Types.{Ty};
 ghost use Rattle.lustre.specs.Project.{Port, Heading, port_names};
 ghost use Rattle.lustre.specs.Node.{absent};
-ghost use Rattle.lustre.specs.Line.{about};
-ghost use Rattle.loops.specs.Rows.{has};
 ghost use Rattle.standing.specs.Standing.{source};
 ghost use Rattle.lines.specs.Lines.{Noted};
 ghost use Rattle.types.specs.Value.{Injective};
-ghost use Rattle.rules.specs.World.{PortsHere};
+ghost use Rattle.rules.specs.World.{PortsOf, source_of};
 ghost use Rattle.scope.specs.Tables.{Tables, Forgetting};
 ghost use Rattle.scope.specs.Sets.{Holds};
 ghost use Rattle.scope.specs.Names.{NamesHere, Numbers};
 ghost use Rattle.ports.specs.Ports.{PortsEntered};
 
-use lines::{Spot, put_line};
-use loops::connect;
-use lustre::{NONE, codes};
-use rules::ports::type_end;
-use scope::{PORTS, has_name, redeclare};
+use lines::{Lines, Spot};
+use loops::NameSet;
+use lustre::{NONE, Records, codes};
+use rules::declared;
+use rules::walk::ports_of;
+use scope::redeclare;
+use types::Scope;
 
-// The record behind a list, and the number of lines.
-#[derive(Drop)]
-pub struct Walked {
-    pub next: usize,
-    pub n: u64,
-}
-
-// Enters the ports of the list at a place, with a line for each whose name is in force already: E0010, E0011 or E0012.
+// Enters the ports of the list at a place, with a line for each whose name is in force already: E0010, E0011 or E0012. The record behind
+// the list.
 pub fn declare_ports(
-    kinds: &[u8],
-    words: &[u64],
-    scope: &mut [u64],
+    records: &Records,
+    scope: &mut Scope,
     list: usize,
     code: u64,
     q: Spot,
-    out: &mut [u64],
-    n: u64,
-) -> Walked
-    requires { PortsHere kinds.now words.now list × (length kinds.now ≤ 4096) × (length scope.old ≡ 3072) }
-    ensures { (g : PortsHere kinds.now words.now list) → Injective g.text → PortsEntered (source kinds.now words.now g.text) g.ps list code q scope.old out.old n result scope.new out.new }
+    lines: &mut Lines,
+) -> usize
+    requires { PortsOf records.now list × (length records.now.kinds.now ≤ 4096) }
+    ensures { (g : PortsOf records.now list) → Injective g.text → PortsEntered (source_of records.now g.text) g.ps list code q scope.old.entries lines.old result scope.new.entries lines.new }
 {
-    let mut left = words[list];
-    let mut next = list + 1;
-    let mut m = n;
-    while left > 0 {
-        m = redeclare(scope, PORTS, words[next], next, code, q, out, m);
-        next = type_end(kinds, words, next + 1);
-        left -= 1;
+    // Kept: no `for`, since where the walk ends is the answer.
+    let mut ports = ports_of(records, list);
+    while let Some((name, at)) = ports.next() {
+        redeclare(scope, Scope::PORTS, name, at, code, q, lines);
     }
-    Walked { next, n: m }
+    ports.at
 }
 
 // Adds the names of the ports of the list at a place to a set.
-pub fn add_names(kinds: &[u8], words: &[u64], list: usize, set: &mut [u64])
-    requires { PortsHere kinds.now words.now list × (8 ≤ length set.old) }
-    ensures { (g : PortsHere kinds.now words.now list) → Injective g.text → (xs : List Name) → Holds g.text xs set.old → Holds g.text (port_names g.ps ++ xs) set.new }
+pub fn add_names(records: &Records, list: usize, set: &mut NameSet)
+    requires { PortsOf records.now list }
+    ensures { (g : PortsOf records.now list) → Injective g.text → (xs : List Name) → Holds g.text xs set.old.bits → Holds g.text (port_names g.ps ++ xs) set.new.bits }
 {
-    let mut left = words[list];
-    let mut next = list + 1;
-    while left > 0 {
-        connect(set, 0, words[next] as usize);
-        next = type_end(kinds, words, next + 1);
-        left -= 1;
+    for (name, _) in ports_of(records, list) {
+        set.insert(name);
     }
-}
-
-// A line where a set lacks a name.
-fn absent_name(set: &[u64], name: u64, code: u64, q: Spot, out: &mut [u64], n: u64) -> u64
-    requires { (8 ≤ length set.now) × (name < 512) }
-    ensures { (num : Name → ℕ) (x : Name) (xs : List Name) → num x ≡ name → has set.now 0 name ≡ (x among xs) → Noted num q (absent code xs (x ∷ [])) out.old n result out.new }
-{
-    if has_name(set, name) {
-        return n;
-    }
-    put_line(out, q, n, code, NONE, name)
 }
 
 // A line for each port of the list at a place whose name a set lacks: E0050 and W0051, where the set has the names assigned.
 pub fn absent_ports(
-    kinds: &[u8],
-    words: &[u64],
+    records: &Records,
     list: usize,
-    set: &[u64],
+    set: &NameSet,
     code: u64,
     q: Spot,
-    out: &mut [u64],
-    n: u64,
-) -> u64
-    requires { PortsHere kinds.now words.now list × (8 ≤ length set.now) }
-    ensures { (g : PortsHere kinds.now words.now list) (num : Name → ℕ) → Numbers g.text num → (xs : List Name) → Holds g.text xs set.now → Noted num q (absent code xs (port_names g.ps)) out.old n result out.new }
+    lines: &mut Lines,
+)
+    requires { PortsOf records.now list }
+    ensures { (g : PortsOf records.now list) (num : Name → ℕ) → Numbers g.text num → (xs : List Name) → Holds g.text xs set.now.bits → Noted num q (absent code xs (port_names g.ps)) lines.old lines.new }
 {
-    let mut left = words[list];
-    let mut next = list + 1;
-    let mut m = n;
-    while left > 0 {
-        m = absent_name(set, words[next], code, q, out, m);
-        next = type_end(kinds, words, next + 1);
-        left -= 1;
+    for (name, _) in ports_of(records, list) {
+        if !set.contains(name) {
+            lines.put(q, code, NONE, name);
+        }
     }
-    m
 }
 
-// A line where a probe's name is not in force: E0150.
-fn absent_probe(scope: &[u64], name: u64, q: Spot, out: &mut [u64], n: u64) -> u64
-    requires { (length scope.now ≡ 3072) × (name < 512) }
-    ensures { (num : Name → ℕ) (x : Name) → num x ≡ name → Noted num q (if◌then◌else◌ (eqb (get_or scope.now (name + 2560) 0) 0) (about 150 x ∷ []) []) out.old n result out.new }
+// A line for each probe of the list at a place whose name is not in force, lib.rs 510: E0150.
+pub fn absent_probes(words: &[u64], scope: &Scope, list: usize, q: Spot, lines: &mut Lines)
+    requires { NamesHere words.now list }
+    ensures { (g : NamesHere words.now list) (num : Name → ℕ) → Numbers g.text num → (as' : List (Name × Ty)) (rs : List (Name × List Port)) (vs : List (Name × Name)) (cs : List (Name × Ty)) (ns : List (Name × Heading)) (env : List Port) → Tables (source g.ks words.now g.text) as' rs vs cs ns env scope.now.entries → Noted num q (absent 150 (port_names env) g.xs) lines.old lines.new }
 {
-    let i = name as usize;
-    if scope[i + PORTS] == 0 {
-        return put_line(out, q, n, codes::E0150, NONE, name);
+    let count = words[list] as usize;
+    for name in &words[list + 1..list + 1 + count] {
+        if declared(scope, Scope::PORTS, *name).is_none() {
+            lines.put(q, codes::E0150, NONE, *name);
+        }
     }
-    n
-}
-
-// A line for each probe of the list at a place whose name is not in force, lib.rs 510.
-pub fn absent_probes(
-    words: &[u64],
-    scope: &[u64],
-    list: usize,
-    q: Spot,
-    out: &mut [u64],
-    n: u64,
-) -> u64
-    requires { NamesHere words.now list × (length scope.now ≡ 3072) }
-    ensures { (g : NamesHere words.now list) (num : Name → ℕ) → Numbers g.text num → (as' : List (Name × Ty)) (rs : List (Name × List Port)) (vs : List (Name × Name)) (cs : List (Name × Ty)) (ns : List (Name × Heading)) (env : List Port) → Tables (source g.ks words.now g.text) as' rs vs cs ns env scope.now → Noted num q (absent 150 (port_names env) g.xs) out.old n result out.new }
-{
-    let mut left = words[list];
-    let mut next = list + 1;
-    let mut m = n;
-    while left > 0 {
-        m = absent_probe(scope, words[next], q, out, m);
-        next += 1;
-        left -= 1;
-    }
-    m
 }
 
 // Takes the ports of the list at a place out of the scope.
-pub fn forget_ports(kinds: &[u8], words: &[u64], scope: &mut [u64], list: usize)
-    requires { PortsHere kinds.now words.now list × (length scope.old ≡ 3072) }
-    ensures { (g : PortsHere kinds.now words.now list) → Injective g.text → (as' : List (Name × Ty)) (rs : List (Name × List Port)) (vs : List (Name × Name)) (cs : List (Name × Ty)) (ns : List (Name × Heading)) (xs : List Name) → let S = source kinds.now words.now g.text in Forgetting S as' rs vs cs ns (port_names g.ps ++ xs) scope.old → Forgetting S as' rs vs cs ns xs scope.new }
+pub fn forget_ports(records: &Records, scope: &mut Scope, list: usize)
+    requires { PortsOf records.now list }
+    ensures { (g : PortsOf records.now list) → Injective g.text → (as' : List (Name × Ty)) (rs : List (Name × List Port)) (vs : List (Name × Name)) (cs : List (Name × Ty)) (ns : List (Name × Heading)) (xs : List Name) → let S = source_of records.now g.text in Forgetting S as' rs vs cs ns (port_names g.ps ++ xs) scope.old.entries → Forgetting S as' rs vs cs ns xs scope.new.entries }
 {
-    let mut left = words[list];
-    let mut next = list + 1;
-    while left > 0 {
-        let i = words[next] as usize;
-        scope[i + PORTS] = 0;
-        next = type_end(kinds, words, next + 1);
-        left -= 1;
+    for (name, _) in ports_of(records, list) {
+        scope.entries[name as usize + Scope::PORTS] = 0;
     }
 }

@@ -21,9 +21,8 @@ use Rattle.lustre.specs.declared.Line.{Line}
 use Rattle.lustre.specs.declared.Answer.{Answer}
 use Rattle.lustre.specs.declared.Answer.TheVariants.{Report, Refused, MoreLines}
 use Rattle.lustre.specs.declared.Refusal.{Refusal}
-use Rattle.input.specs.Input.{judged}
-use Rattle.input.specs.declared.Input.{Input}
-use Rattle.input.specs.declared.Input.TheVariants as Answers
+use Rattle.input.specs.Input.{Checked, judged}
+use Rattle.std.proofs.Common.{None, Some, Ok, Err}
 use Rattle.lustre.proofs.Lowest.{unless_none, unless_some, reports, passes}
 use Rattle.lustre.proofs.Blank.{blank_answer, blank_stored}
 use Rattle.input.proofs.Accepts.{accepted, blank, refused, accepts}
@@ -36,29 +35,29 @@ use Rattle.project.proofs.Lines.{report_stored}
 
 module _ (ks ws text : List ℕ) (work : ℕ) where
   -- accepted input is reported
-  pub answer_accepted : (n room : ℕ) → judged ks ws text work ≡ Answers.Accepted n → answer ks ws text work room ≡ reported room (project_of ks ws text)
+  pub answer_accepted : (n room : ℕ) → judged ks ws text work ≡ Ok (Some n) → answer ks ws text work room ≡ reported room (project_of ks ws text)
   unfolding answer
   answer_accepted n room e = unless_none Refused (reported room (project_of ks ws text)) (lowest ks ws text work) (accepted ks ws text work n e).0
 
   -- a blank file gets the report without lines and edges
-  pub answer_blank : (room : ℕ) → judged ks ws text work ≡ Answers.Blank → answer ks ws text work room ≡ Report 0 0
+  pub answer_blank : (room : ℕ) → judged ks ws text work ≡ Ok None → answer ks ws text work room ≡ Report 0 0
   answer_blank room e = let b = blank ks ws text work e in blank_answer ks ws text b.1 work room b.0
 
   -- refused input gets its refusal
-  pub answer_refused : (r : Refusal) (room : ℕ) → judged ks ws text work ≡ Answers.Refused r → answer ks ws text work room ≡ Refused r
+  pub answer_refused : (r : Refusal) (room : ℕ) → judged ks ws text work ≡ Err r → answer ks ws text work room ≡ Refused r
   unfolding answer
   answer_refused r room e = unless_some Refused (reported room (project_of ks ws text)) (lowest ks ws text work) r (refused ks ws text work r e)
 
   -- accepted input is answered with its number of names
-  pub count_is : (n : ℕ) → judged ks ws text work ≡ Answers.Accepted n → length (names_of text) ≡ n
+  pub count_is : (n : ℕ) → judged ks ws text work ≡ Ok (Some n) → length (names_of text) ≡ n
   count_is n e = (accepted ks ws text work n e).2
 
   -- what `judge` asks of accepted input
-  pub model_accepted : (n : ℕ) → judged ks ws text work ≡ Answers.Accepted n → (g : Model ks ws) × (g.names ≡ n)
+  pub model_accepted : (n : ℕ) → judged ks ws text work ≡ Ok (Some n) → (g : Model ks ws) × (g.names ≡ n)
   model_accepted n e = (model (accepts ks ws text work n e), count_is n e)
 
   -- the number of each alias's name is below the number of names
-  pub aliases_accepted : (n : ℕ) → judged ks ws text work ≡ Answers.Accepted n → AliasesBelow ks ws n
+  pub aliases_accepted : (n : ℕ) → judged ks ws text work ≡ Ok (Some n) → AliasesBelow ks ws n
   unfolding word_class class_in word_classes mem in_class
   aliases_accepted n e at l k =
       let a = accepts ks ws text work n e in
@@ -66,7 +65,7 @@ module _ (ks ws text : List ℕ) (work : ℕ) where
       subst (λ (m : ℕ). get_or ws at 0 < m) (count_is n e) (ltb-true (get_or ws at 0) (length (names_of text)) r)
 
   -- accepted input comes with enough work memory
-  pub work_accepted : (n : ℕ) → judged ks ws text work ≡ Answers.Accepted n → 4096 ≤ work
+  pub work_accepted : (n : ℕ) → judged ks ws text work ≡ Ok (Some n) → 4096 ≤ work
   unfolding short_work
   work_accepted n e = go (ltb work 4096) refl
     where
@@ -104,14 +103,14 @@ nothing_stored ks ws text work lent is none_stored = (rw (is, buffer_after, none
 
 module _ (ks ws text work lent : List ℕ) where
   -- the call meets its contract on refused input: nothing is changed
-  pub called_refused : (i : Input) (r : Refusal) → i ≡ judged ks ws text (length work) → i ≡ Answers.Refused r → Called ks ws text work lent (Refused r) work lent
+  pub called_refused : (i : Checked) (r : Refusal) → i ≡ judged ks ws text (length work) → i ≡ Err r → Called ks ws text work lent (Refused r) work lent
   unfolding buffer_after work_after writes
   called_refused i r j e =
       let is : answer ks ws text (length work) (room lent) ≡ Refused r = answer_refused ks ws text (length work) r (room lent) (sym j ∙ e) in
       record { answered = sym is; lines = rw (is, buffer_after); worked = rw (is, work_after) }
 
   -- on a blank file, by the contract of `report_blank`: no line is written, and the work memory is zero
-  pub called_blank : {r : Answer} {work' : List ℕ} → Answers.Blank ≡ judged ks ws text (length work)
+  pub called_blank : {r : Answer} {work' : List ℕ} → Ok None ≡ judged ks ws text (length work)
       → (r ≡ Report 0 0) × ((n : ℕ) → length work ≡ n → work' ≡ replicate n 0) → Called ks ws text work lent r work' lent
   called_blank j h =
       let is : answer ks ws text (length work) (room lent) ≡ Report 0 0 = answer_blank ks ws text (length work) (room lent) (sym j) in
@@ -119,7 +118,7 @@ module _ (ks ws text work lent : List ℕ) where
       record { answered = h.0 ∙ sym is; lines = sym left.0; worked = h.1 (length work) refl ∙ sym left.1 }
 
   -- and on accepted input, by the contract of `judge`
-  pub called_accepted : {r : Answer} {work' lent' : List ℕ} (n : ℕ) → Answers.Accepted n ≡ judged ks ws text (length work)
+  pub called_accepted : {r : Answer} {work' lent' : List ℕ} (n : ℕ) → Ok (Some n) ≡ judged ks ws text (length work)
       → (work' ≡ replicate (length work) 0) × ((g : Model ks ws) → g.names ≡ n → JudgedAs g lent r lent') → Called ks ws text work lent r work' lent'
   unfolding buffer_after work_after
   called_accepted n j h =

@@ -2,7 +2,6 @@ pub mod Models
 pub mod Lines
 pub mod Closed
 pub mod Answers
-pub mod Clears
 pub mod Whole
 pub mod Demands
 pub mod Constants

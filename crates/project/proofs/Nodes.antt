@@ -21,7 +21,7 @@ use Rattle.scope.proofs.Writes.{reports_none, reports_append}
 use Rattle.tables.specs.Heads.{Head, heads, nodes_among, Meets}
 use Rattle.tables.proofs.Heads.{meets, nodes_met, past, node_here, no_more}
 use Rattle.nodes.specs.Nodes.{Blank, NodeGiven, NodeChecked}
-use Rattle.nodes.specs.declared.Judged.{Judged}
+use Rattle.lines.specs.declared.Lines.{Lines}
 
 -- the first 4,096 of zero words are a graph with no edge
 pub blank_front : {w : List ℕ} {n : ℕ} → w ≡ replicate n 0 → 4096 ≤ n → Blank (take 4096 w)
@@ -37,22 +37,22 @@ blank_front {w} {n} e l =
     }
 
 -- what the check of the node at a record does
-abbrev pub NodePassed : (ks ws sc : List ℕ) (at number first : ℕ) (o : List ℕ) (m : ℕ) (r : Judged) (sc' graph' o' : List ℕ) → Type 0
-NodePassed ks ws sc at number first o m r sc' graph' o' = (G : NodeGiven ks ws sc at) → NodeChecked G.model G.n number first o m r sc' graph' o'
+abbrev pub NodePassed : (ks ws sc : List ℕ) (at number : ℕ) (l : Lines) (r : ℕ) (sc' graph' : List ℕ) (l' : Lines) → Type 0
+NodePassed ks ws sc at number l r sc' graph' l' = (G : NodeGiven ks ws sc at) → NodeChecked G.model G.n number l r sc' graph' l'
 
 -- The state of the pass at a record: the heads still to come, the declarations in the scope with no port, the graph with no edge, and how
 -- the lines and looks of the nodes still to come complete those of the project.
-pub record Judging {ks ws : List ℕ} (g : Model ks ws) (first : ℕ) (o₀ : List ℕ) (n at number looks m : ℕ) (sc graph o : List ℕ) : Type 0 where
+pub record Judging {ks ws : List ℕ} (g : Model ks ws) (l₀ : Lines) (at number looks : ℕ) (sc graph : List ℕ) (l : Lines) : Type 0 where
   pub hs : List Head
   pub to_come : Meets g at hs
   pub declared : Declared g [] sc
   pub blank : Blank graph
   pub looked : looks + looks_all (nodes_among hs) ≡ looks_all (all_nodes g.P)
-  pub rest : {k : ℕ} {o' : List ℕ} → Reports g.number first (nodes_lines (context (skeleton g.P)) number (nodes_among hs)) o m k o' → Reports g.number first (nodes_lines (context (skeleton g.P)) 0 (all_nodes g.P)) o₀ n k o'
+  pub rest : {l' : Lines} → Reports g.number (nodes_lines (context (skeleton g.P)) number (nodes_among hs)) l l' → Reports g.number (nodes_lines (context (skeleton g.P)) 0 (all_nodes g.P)) l₀ l'
 
-module _ {ks ws : List ℕ} (g : Model ks ws) {first : ℕ} {o₀ : List ℕ} {n : ℕ} where
+module _ {ks ws : List ℕ} (g : Model ks ws) {l₀ : Lines} where
   -- no node yet
-  pub judging_start : {sc graph : List ℕ} → Declared g [] sc → Blank graph → Judging g first o₀ n 1 0 0 n sc graph o₀
+  pub judging_start : {sc graph : List ℕ} → Declared g [] sc → Blank graph → Judging g l₀ 1 0 0 sc graph l₀
   judging_start T b = record {
     hs = heads g.P;
     to_come = meets g;
@@ -62,11 +62,11 @@ module _ {ks ws : List ℕ} (g : Model ks ws) {first : ℕ} {o₀ : List ℕ} {n
     rest = λ r. rw (nodes_met g.P) at r;
   }
 
-  module _ {at number looks m : ℕ} {sc graph o : List ℕ} (d : Judging g first o₀ n at number looks m sc graph o) where
+  module _ {at number looks : ℕ} {sc graph : List ℕ} {l : Lines} (d : Judging g l₀ at number looks sc graph l) where
     -- a record that begins no node
-    pub judging_past : at < length ks → (10 ≤ get_or ks at 0 → get_or ks at 0 ≤ 12 → ⊥) → Judging g first o₀ n (at + 1) number looks m sc graph o
-    judging_past l a =
-        let p = past g d.to_come l in
+    pub judging_past : at < length ks → (10 ≤ get_or ks at 0 → get_or ks at 0 ≤ 12 → ⊥) → Judging g l₀ (at + 1) number looks sc graph l
+    judging_past b a =
+        let p = past g d.to_come b in
         record {
           hs = p.rest;
           to_come = p.onward;
@@ -78,17 +78,17 @@ module _ {ks ws : List ℕ} (g : Model ks ws) {first : ℕ} {o₀ : List ℕ} {n
 
     -- what the check of a node asks
     abbrev pub judging_given : at < length ks → 10 ≤ get_or ks at 0 → get_or ks at 0 ≤ 12 → NodeGiven ks ws sc at
-    judging_given l a b =
-        let c = node_here g d.to_come l a b in
+    judging_given h a b =
+        let c = node_here g d.to_come h a b in
         record { model = g; n = c.node; node = record { stands = c.stands; shallow = c.shallow; numbered = c.numbered }; declared = d.declared }
 
     -- a node, with its lines and looks
-    pub judging_node : {r : Judged} {sc' graph' o' : List ℕ} → at < length ks → 10 ≤ get_or ks at 0 → get_or ks at 0 ≤ 12 → NodePassed ks ws sc at number first o m r sc' graph' o' → Judging g first o₀ n (at + 1) (number + 1) (looks + r.looks) r.n sc' graph' o'
+    pub judging_node : {r : ℕ} {sc' graph' : List ℕ} {l' : Lines} → at < length ks → 10 ≤ get_or ks at 0 → get_or ks at 0 ≤ 12 → NodePassed ks ws sc at number l r sc' graph' l' → Judging g l₀ (at + 1) (number + 1) (looks + r) sc' graph' l'
     unfolding nodes_among nodes_lines looks_all
-    judging_node {r} l a b w =
-        let c = node_here g d.to_come l a b in
+    judging_node h a b w =
+        let c = node_here g d.to_come h a b in
         let Γ = context (skeleton g.P) in
-        let done = w (judging_given l a b) in
+        let done = w (judging_given h a b) in
         let own : List Line = node_lines Γ number c.node in
         let later : List Line = nodes_lines Γ (suc number) (nodes_among c.rest) in
         let before : looks + (looks_of c.node.kind c.node.equations + looks_all (nodes_among c.rest)) ≡ looks_all (all_nodes g.P) = rw c.are at d.looked in
@@ -102,9 +102,9 @@ module _ {ks ws : List ℕ} (g : Model ks ws) {first : ℕ} {o₀ : List ℕ} {n
         }
 
     -- every record has been looked at
-    pub judging_done : length ks ≤ at → Reports g.number first (nodes_lines (context (skeleton g.P)) 0 (all_nodes g.P)) o₀ n m o × (looks ≡ looks_all (all_nodes g.P))
+    pub judging_done : length ks ≤ at → Reports g.number (nodes_lines (context (skeleton g.P)) 0 (all_nodes g.P)) l₀ l × (looks ≡ looks_all (all_nodes g.P))
     unfolding nodes_among nodes_lines looks_all
-    judging_done l =
-        let e = no_more g d.to_come l in
+    judging_done b =
+        let e = no_more g d.to_come b in
         let looked : looks + 0 ≡ looks_all (all_nodes g.P) = rw e at d.looked in
         (d.rest (rw e (reports_none g.number)), omega (arith, looked))

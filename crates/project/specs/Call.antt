@@ -8,6 +8,7 @@ use Rattle.lustre.specs.Answer.{answer, reported, writes, stored_report, work_af
 use Rattle.lustre.specs.declared.Line.{Line}
 use Rattle.lustre.specs.declared.Answer.{Answer}
 use Rattle.lines.specs.Lines.{words, room}
+use Rattle.types.specs.declared.Context.{Context}
 use Rattle.scope.specs.Model.{Model}
 use Rattle.scope.specs.Tables.{Declared}
 use Rattle.scope.specs.Writes.{line_by}
@@ -30,6 +31,9 @@ pub record Called (kinds ws text work lent : List ℕ) (r : Answer) (work' lent'
 pub record ModelDeclared (ks ws sc : List ℕ) : Type 0 where
   pub model : Model ks ws
   pub declared : Declared model [] sc
+
+abbrev pub ModelDeclaredOf : Context → Type 0
+ModelDeclaredOf x = ModelDeclared x.records.kinds.now x.records.words.now x.scope.now.entries
 
 -- the answer to a model and the lines that fit
 pub record JudgedAs {ks ws : List ℕ} (g : Model ks ws) (lent : List ℕ) (r : Answer) (lent' : List ℕ) : Type 0 where

@@ -3,19 +3,19 @@
 use mathlib.Core.Path.{◌≡◌, refl, ap, ap₂, sym, subst, ◌∙◌, fun_ext}
 use mathlib.Core.Bool.{Bool, true, false}
 use mathlib.Core.List.{List, [], ◌∷◌, ◌++◌, map}
-use mathlib.Core.Option.{Option, none, some}
-use Prim.Native.Nat.{ℕ, suc, ◌+◌, ◌≤◌, ◌<◌}
+use mathlib.Core.Option as maybe
+use Prim.Native.Nat.{ℕ, suc, ◌+◌}
 use native.Mathlib.Omega.{arith}
 use lib.ListN.{length, drop}
-use borrow.Author.Tests.{ne_eqb}
+use Rattle.std.proofs.Common.{Option, None, Some, Ok, Err}
 use Rattle.lustre.specs.Name.{Name}
 use Rattle.lustre.specs.Records.{Rec, word_class, spell}
 use Rattle.lustre.specs.Grammar.{Class, Trees, Shape, follow, Entry, entries, entry, Got, got, stuck, at_entry, read}
 use Rattle.lustre.specs.Levels.{too_deep, deep_record}
 use Rattle.demands.specs.Reading.{reads}
-use Rattle.records.specs.Places.{Want, no_place, mark, shape_in, shape_of, on_shape, wants, ends, go}
-use Rattle.records.specs.declared.Read.{Read}
-use Rattle.records.specs.declared.Read.TheVariants.{End, Bad}
+use Rattle.records.specs.Places.{Want, Walk, mark, shape_in, shape_of, on_shape, wants, ends, go}
+use Rattle.records.specs.Tables.{placed}
+use Rattle.records.specs.declared.Reached.{Reached}
 use Rattle.records.proofs.Spells.{spelled, spell_drop}
 use Rattle.records.proofs.Steps.{inner_class}
 
@@ -25,22 +25,22 @@ classes st = map (λ (w : Want). w.0) st
 
 classes_wants : (w : Want) (ds : List Class) (st : List Want) → classes (wants w ds ++ st) ≡ ds ++ classes st
 classes_wants w [] st = refl
-classes_wants w (d ∷ ds) st = ap₂ {C = List Class} (λ c cs. c ∷ cs) (ap (λ (v : Want). v.0) (inner_class w.0 w.1 d)) (classes_wants w ds st)
+classes_wants w (d ∷ ds) st = ap₂ {C = List Class} (λ c cs. c ∷ cs) (inner_class w.0 w.1 d) (classes_wants w ds st)
 
 -- both are stuck or both end, with the same records left of those up to place n
-abbrev pub Match : {A : Type 0} → ℕ → Read → Got A → Type 0
-Match n (End e d) (got a rest) = e + length rest ≡ n
-Match n (End e d) (stuck rest) = ⊥
-Match n (Bad p) (got a rest) = ⊥
-Match n (Bad p) (stuck rest) = p + length rest ≡ n
+abbrev pub Match : {A : Type 0} → ℕ → Walk → Got A → Type 0
+Match n (Ok r) (got a rest) = r.next + length rest ≡ n
+Match n (Ok r) (stuck rest) = ⊥
+Match n (Err p) (got a rest) = ⊥
+Match n (Err p) (stuck rest) = p + length rest ≡ n
 
-match_step : {A : Type 0} (n : ℕ) (c : Class) (o : Option (Entry c)) (at : ℕ) (rs : List Rec) (f : Shape → Read) (g : Entry c → Got A)
-    → at + length rs ≡ n → ((e : Entry c) → Match n (f e.shape) (g e)) → Match n (on_shape (shape_in o) (Bad at) f) (at_entry rs o g)
+match_step : {A : Type 0} (n : ℕ) (c : Class) (o : maybe.Option (Entry c)) (at : ℕ) (rs : List Rec) (f : Shape → Walk) (g : Entry c → Got A)
+    → at + length rs ≡ n → ((e : Entry c) → Match n (f e.shape) (g e)) → Match n (on_shape (shape_in o) (Err at) f) (at_entry rs o g)
 unfolding on_shape shape_in
-match_step n c none at rs f g q h = q
-match_step n c (some e) at rs f g q h = h e
+match_step n c maybe.none at rs f g q h = q
+match_step n c (maybe.some e) at rs f g q h = h e
 
-agree : {A : Type 0} (rs : List Rec) (st : List Want) (at deep : ℕ) (f : Trees (classes st) → A) → Match (at + length rs) (ends st at deep rs) (read (classes st) f rs)
+agree : {A : Type 0} (rs : List Rec) (st : List Want) (at : ℕ) (deep : Option ℕ) (f : Trees (classes st) → A) → Match (at + length rs) (ends st at deep rs) (read (classes st) f rs)
 unfolding ends read shape_of
 agree [] [] at deep f = refl
 agree [] (w ∷ st) at deep f = refl
@@ -53,61 +53,55 @@ agree {A} (r ∷ rs) (w ∷ st) at deep f = match_step (at + suc (length rs)) w.
     (λ g. subst (λ (n : ℕ). Match n (ends t (at + 1) (mark w at deep) rs) (read (classes t) g rs)) m (agree rs t (at + 1) (mark w at deep) g)) _)
 
 -- a walk that ends has gone on at its first record
-goes_on : (o : Option Shape) (at e d : ℕ) (f : Shape → Read) → on_shape o (Bad at) f ≡ End e d → (s : Shape) × (o ≡ some s) × (f s ≡ End e d)
+goes_on : (o : maybe.Option Shape) (at : ℕ) (r : Reached) (f : Shape → Walk) → on_shape o (Err at) f ≡ Ok r → (s : Shape) × (o ≡ maybe.some s) × (f s ≡ Ok r)
 unfolding on_shape
-goes_on none at e d f q = let z : ◌≡◌ {A = ℕ} 0 1 = cc in absurd (omega arith)
-goes_on (some s) at e d f q = (s, refl, q)
+goes_on maybe.none at r f q = cc
+goes_on (maybe.some s) at r f q = (s, refl, q)
 
 -- a mark stays
-kept : (rs : List Rec) (st : List Want) (at deep : ℕ) → ¬ (deep ≡ no_place) → (e d : ℕ) → ends st at deep rs ≡ End e d → d ≡ deep
+kept : (rs : List Rec) (st : List Want) (at deep : ℕ) (r : Reached) → ends st at (Some deep) rs ≡ Ok r → r.deep ≡ Some deep
 unfolding ends mark
-kept [] [] at deep h e d q = cc
-kept [] (w ∷ st) at deep h e d q = let z : ◌≡◌ {A = ℕ} 0 1 = cc in absurd (omega arith)
-kept (r ∷ rs) [] at deep h e d q = cc
-kept (r ∷ rs) (w ∷ st) at deep h e d q =
-    let m : mark w at deep ≡ deep = rw (ne_eqb deep no_place h) in
-    let u = goes_on _ at e d _ q in
-    kept rs _ (at + 1) (mark w at deep) (λ z. h (sym m ∙ z)) e d u.2 ∙ m
+kept [] [] at deep r q = cc
+kept [] (w ∷ st) at deep r q = cc
+kept (x ∷ rs) [] at deep r q = cc
+kept (x ∷ rs) (w ∷ st) at deep r q = let u = goes_on _ at r _ q in kept rs _ (at + 1) deep r u.2
 
--- the value of the first record too deep, if there is one
-abbrev pub Marked : ℕ → Option ℕ → Type 0
-Marked d none = d ≡ no_place
-Marked d (some p) = (d ≡ p) × (p < no_place)
-
-marked_step : (w : Want) (st : List Want) (at : ℕ) (r : Rec) (rs : List Rec) (e d : ℕ) → at < no_place
-    → ((st : List Want) → ends st (at + 1) no_place rs ≡ End e d → Marked d (deep_record st (at + 1) rs))
-    → (b : Bool) → too_deep w.0 w.1 ≡ b → (o : Option (Entry w.0))
-    → on_shape (shape_in o) (Bad at) (λ s. ends (wants w (follow s r.number) ++ st) (at + 1) (mark w at no_place) rs) ≡ End e d
-    → Marked d (elim b [ true ↦ some at | false ↦ elim o [ none ↦ none | some x ↦ deep_record (wants w (follow x.shape r.number) ++ st) (at + 1) rs ] ])
+-- the mark that comes out is the first record too deep
+marked_step : (w : Want) (st : List Want) (at : ℕ) (x : Rec) (rs : List Rec) (r : Reached)
+    → ((st : List Want) → ends st (at + 1) None rs ≡ Ok r → r.deep ≡ placed (deep_record st (at + 1) rs))
+    → (b : Bool) → too_deep w.0 w.1 ≡ b → (o : maybe.Option (Entry w.0))
+    → on_shape (shape_in o) (Err at) (λ s. ends (wants w (follow s x.number) ++ st) (at + 1) (mark w at None) rs) ≡ Ok r
+    → r.deep ≡ placed (elim b [ true ↦ maybe.some at | false ↦ elim o [ maybe.none ↦ maybe.none | maybe.some e ↦ deep_record (wants w (follow e.shape x.number) ++ st) (at + 1) rs ] ])
 unfolding on_shape shape_in mark
-marked_step w st at r rs e d h ih true p o q =
-    let m : mark w at no_place ≡ at = rw p in
-    let u = goes_on (shape_in o) at e d (λ s. ends (wants w (follow s r.number) ++ st) (at + 1) (mark w at no_place) rs) q in
-    (kept rs (wants w (follow u.0 r.number) ++ st) (at + 1) (mark w at no_place) (λ z. let i : at ≡ no_place = sym m ∙ z in omega arith) e d u.2 ∙ m, h)
-marked_step w st at r rs e d h ih false p none q = let z : ◌≡◌ {A = ℕ} 0 1 = cc in absurd (omega arith)
-marked_step w st at r rs e d h ih false p (some x) q =
-    let m : mark w at no_place ≡ no_place = rw p in
-    let t = wants w (follow x.shape r.number) ++ st in
-    ih t (ap (λ (n : ℕ). ends t (at + 1) n rs) (sym m) ∙ q)
+marked_step w st at x rs r ih true p o q =
+    let u = goes_on (shape_in o) at r (λ s. ends (wants w (follow s x.number) ++ st) (at + 1) (mark w at None) rs) q in
+    let m : mark w at None ≡ Some at = rw p in
+    let t = wants w (follow u.0 x.number) ++ st in
+    kept rs t (at + 1) at r (ap (λ (d : Option ℕ). ends t (at + 1) d rs) (sym m) ∙ u.2)
+marked_step w st at x rs r ih false p maybe.none q = cc
+marked_step w st at x rs r ih false p (maybe.some e) q =
+    let m : mark w at None ≡ None = rw p in
+    let t = wants w (follow e.shape x.number) ++ st in
+    ih t (ap (λ (d : Option ℕ). ends t (at + 1) d rs) (sym m) ∙ q)
 
-pub marked : (rs : List Rec) (st : List Want) (at : ℕ) → at + length rs ≤ no_place → (e d : ℕ) → ends st at no_place rs ≡ End e d → Marked d (deep_record st at rs)
+pub marked : (rs : List Rec) (st : List Want) (at : ℕ) (r : Reached) → ends st at None rs ≡ Ok r → r.deep ≡ placed (deep_record st at rs)
 unfolding ends deep_record shape_of
-marked [] [] at h e d q = cc
-marked [] (w ∷ st) at h e d q = let z : ◌≡◌ {A = ℕ} 0 1 = cc in absurd (omega arith)
-marked (r ∷ rs) [] at h e d q = cc
-marked (r ∷ rs) (w ∷ st) at h e d q = marked_step w st at r rs e d (omega arith) (λ t. marked rs t (at + 1) (omega arith) e d) (too_deep w.0 w.1) refl (entry r.kind (entries w.0)) q
+marked [] [] at r q = cc
+marked [] (w ∷ st) at r q = cc
+marked (x ∷ rs) [] at r q = cc
+marked (x ∷ rs) (w ∷ st) at r q = marked_step w st at x rs r (λ t. marked rs t (at + 1) r) (too_deep w.0 w.1) refl (entry x.kind (entries w.0)) q
 
 -- records of the same kinds and numbers are walked alike
-ends_alike : (r s : Rec) (rs ss : List Rec) → r.kind ≡ s.kind → r.number ≡ s.number → ((st : List Want) (at deep : ℕ) → ends st at deep rs ≡ ends st at deep ss)
-    → (st : List Want) (at deep : ℕ) → ends st at deep (r ∷ rs) ≡ ends st at deep (s ∷ ss)
+ends_alike : (r s : Rec) (rs ss : List Rec) → r.kind ≡ s.kind → r.number ≡ s.number → ((st : List Want) (at : ℕ) (deep : Option ℕ) → ends st at deep rs ≡ ends st at deep ss)
+    → (st : List Want) (at : ℕ) (deep : Option ℕ) → ends st at deep (r ∷ rs) ≡ ends st at deep (s ∷ ss)
 unfolding ends
 ends_alike r s rs ss k n h [] at deep = refl
 ends_alike r s rs ss k n h (w ∷ st) at deep =
-    ap₂ {C = Read} (λ (j i : ℕ). on_shape (shape_of w.0 j) (Bad at) (λ c. ends (wants w (follow c i) ++ st) (at + 1) (mark w at deep) rs)) k n
-    ∙ ap (on_shape (shape_of w.0 s.kind) (Bad at)) (fun_ext (λ c. h (wants w (follow c s.number) ++ st) (at + 1) (mark w at deep)))
+    ap₂ {C = Walk} (λ (j i : ℕ). on_shape (shape_of w.0 j) (Err at) (λ c. ends (wants w (follow c i) ++ st) (at + 1) (mark w at deep) rs)) k n
+    ∙ ap (on_shape (shape_of w.0 s.kind) (Err at)) (fun_ext (λ c. h (wants w (follow c s.number) ++ st) (at + 1) (mark w at deep)))
 
 -- so the walk is the same under every numbering of names
-ends_names : (ρ σ : ℕ → Name) (ks ws : List ℕ) (st : List Want) (at deep : ℕ) → ends st at deep (spell ρ ks ws) ≡ ends st at deep (spell σ ks ws)
+ends_names : (ρ σ : ℕ → Name) (ks ws : List ℕ) (st : List Want) (at : ℕ) (deep : Option ℕ) → ends st at deep (spell ρ ks ws) ≡ ends st at deep (spell σ ks ws)
 unfolding spell
 ends_names ρ σ [] ws st at deep = refl
 ends_names ρ σ (k ∷ ks) [] st at deep = refl
@@ -116,13 +110,13 @@ ends_names ρ σ (k ∷ ks) (w ∷ ws) st at deep =
     let b = spelled (word_class k) k w (σ w) (σ w) in
     ends_alike _ _ _ _ (a.0 ∙ sym b.0) a.1 (ends_names ρ σ ks ws) st at deep
 
-pub go_names : (ρ : ℕ → Name) (ks ws : List ℕ) (st : List Want) (at deep : ℕ) → go ks ws st at deep ≡ ends st at deep (drop at (spell ρ ks ws))
+pub go_names : (ρ : ℕ → Name) (ks ws : List ℕ) (st : List Want) (at : ℕ) (deep : Option ℕ) → go ks ws st at deep ≡ ends st at deep (drop at (spell ρ ks ws))
 unfolding go
 go_names ρ ks ws st at deep = ap (ends st at deep) (sym (spell_drop (λ n. []) at ks ws)) ∙ ends_names (λ n. []) ρ (drop at ks) (drop at ws) st at deep ∙ ap (ends st at deep) (spell_drop ρ at ks ws)
 
 -- so it agrees with the reader of one tree, from any position and under every numbering
-pub go_agree : (ρ : ℕ → Name) (ks ws : List ℕ) (c : Class) (l at deep : ℕ)
+pub go_agree : (ρ : ℕ → Name) (ks ws : List ℕ) (c : Class) (l at : ℕ) (deep : Option ℕ)
     → Match (at + length (drop at (spell ρ ks ws))) (go ks ws ((c, l) ∷ []) at deep) (reads c (drop at (spell ρ ks ws)))
 go_agree ρ ks ws c l at deep =
     let rs = drop at (spell ρ ks ws) in
-    subst (λ (r : Read). Match (at + length rs) r (reads c rs)) (sym (go_names ρ ks ws ((c, l) ∷ []) at deep)) (agree rs ((c, l) ∷ []) at deep (λ v. v.0))
+    subst (λ (r : Walk). Match (at + length rs) r (reads c rs)) (sym (go_names ρ ks ws ((c, l) ∷ []) at deep)) (agree rs ((c, l) ∷ []) at deep (λ v. v.0))

@@ -11,36 +11,35 @@ use Rattle.lustre.specs.Grammar.{Class, Tree, Got, got, stuck}
 use Rattle.demands.specs.Reading.{reads}
 use Rattle.demands.proofs.ReadBack.{reads_back}
 use Rattle.demands.proofs.Reading.{flattens_back}
-use Rattle.records.specs.Places.{class_at, go, Passed}
-use Rattle.records.specs.Stands.{Stands, EndOf, EndAsked}
-use Rattle.records.specs.Tables.{one_want}
-use Rattle.records.specs.declared.Read.{Read}
-use Rattle.records.specs.declared.Read.TheVariants.{End, Bad}
+use Rattle.std.proofs.Common.{Option, None, Ok, Err}
+use Rattle.records.specs.Places.{Walk, go, Passed}
+use Rattle.records.specs.Stands.{Stands, PartAt, EndOf}
+use Rattle.records.specs.declared.Reached.{Reached}
 use Rattle.records.proofs.Agree.{Match, go_agree}
 use Rattle.records.proofs.Parts.{size_of, left_from, tidy_from, stands_first}
 use Rattle.records.proofs.Passes.{one_passed}
 
 -- a walk that matches the reader's end
-ends_at : {A : Type 0} (n : ℕ) (r : Read) (a : A) (k : List Rec) (end : ℕ) → Match n r (got a k) → end + length k ≡ n → (d : ℕ) × (r ≡ End end d)
-ends_at n (End e d) a k end m q = (d, ap (λ (i : ℕ). End i d) (omega arith))
-ends_at n (Bad p) a k end m q = absurd m
+ends_at : {A : Type 0} (n : ℕ) (r : Walk) (a : A) (k : List Rec) (end : ℕ) → Match n r (got a k) → end + length k ≡ n → (d : Option ℕ) × (r ≡ Ok (record { next = end; deep = d }))
+ends_at n (Ok r) a k end m q = (r.deep, ap (λ (i : ℕ). Ok (record { next = i; deep = r.deep })) (omega arith))
+ends_at n (Err p) a k end m q = absurd m
 
-module _ (ρ : ℕ → Name) (ks ws : List ℕ) (same : length ks ≡ length ws) (c : Class) (l at deep : ℕ) where
+module _ (ρ : ℕ → Name) (ks ws : List ℕ) (same : length ks ≡ length ws) (c : Class) (l at : ℕ) (deep : Option ℕ) where
   abbrev rs : List Rec
   rs = drop at (spell ρ ks ws)
 
   -- a tree that stands at a position ends where the walk does
-  pub ends_there : (v : Tree c) (end : ℕ) → Stands ρ ks ws c v at end → (d : ℕ) × (go ks ws ((c, l) ∷ []) at deep ≡ End end d)
+  pub ends_there : (v : Tree c) (end : ℕ) → Stands ρ ks ws c v at end → (d : Option ℕ) × (go ks ws ((c, l) ∷ []) at deep ≡ Ok (record { next = end; deep = d }))
   ends_there v end s =
       let k = drop end (spell ρ ks ws) in
       let q : reads c rs ≡ got v k = ap (reads c) s.flat ∙ reads_back c v k s.writable in
       ends_at (at + length rs) _ v k end (subst (Match (at + length rs) (go ks ws ((c, l) ∷ []) at deep)) q (go_agree ρ ks ws c l at deep)) (omega (arith, left_from ρ ks ws same at, left_from ρ ks ws same end, s.before, s.within))
 
   -- where the walk ends a tree stands
-  pub stands_there : at ≤ length ks → (e d : ℕ) → go ks ws ((c, l) ∷ []) at deep ≡ End e d → (v : Tree c) × Stands ρ ks ws c v at e
-  stands_there h e d q = by (reads c rs) refl (subst (λ (r : Read). Match (at + length rs) r (reads c rs)) q (go_agree ρ ks ws c l at deep))
+  pub stands_there : at ≤ length ks → (e : ℕ) (d : Option ℕ) → go ks ws ((c, l) ∷ []) at deep ≡ Ok (record { next = e; deep = d }) → (v : Tree c) × Stands ρ ks ws c v at e
+  stands_there h e d q = by (reads c rs) refl (subst (λ (r : Walk). Match (at + length rs) r (reads c rs)) q (go_agree ρ ks ws c l at deep))
     where
-      by : (g : Got (Tree c)) → reads c rs ≡ g → Match (at + length rs) (End e d) g → (v : Tree c) × Stands ρ ks ws c v at e
+      by : (g : Got (Tree c)) → reads c rs ≡ g → Match (at + length rs) (Ok (record { next = e; deep = d })) g → (v : Tree c) × Stands ρ ks ws c v at e
       by (got v rest) p m =
           let f = flattens_back c rs v rest (tidy_from ρ ks ws same at) p in
           let s = stands_first ρ ks ws same c v at rest f.0 h f.1 in
@@ -50,18 +49,18 @@ module _ (ρ : ℕ → Name) (ks ws : List ℕ) (same : length ks ≡ length ws)
 
 -- a tree stands at a position under every numbering of names, or under none
 pub stands_under : (ρ σ : ℕ → Name) (ks ws : List ℕ) → length ks ≡ length ws → (c : Class) (v : Tree c) (at end : ℕ) → Stands ρ ks ws c v at end → (w : Tree c) × Stands σ ks ws c w at end
-stands_under ρ σ ks ws same c v at end s = let q = ends_there ρ ks ws same c 1 at 0 v end s in stands_there σ ks ws same c 1 at 0 (omega (arith, s.before, s.within)) end q.0 q.1
+stands_under ρ σ ks ws same c v at end s = let q = ends_there ρ ks ws same c 1 at None v end s in stands_there σ ks ws same c 1 at None (omega (arith, s.before, s.within)) end q.0 q.1
 
-module _ (ks ws : List ℕ) (x at : ℕ) (a : EndAsked ks ws x at) where
-  module _ (deep from : ℕ) (r : Read) (p : Passed ks ws (one_want x 1) at deep from r) where
-    walked : go ks ws ((class_at x, 1) ∷ []) at deep ≡ r
-    walked = one_passed ks ws x 1 at deep from r p
+module _ (ks ws : List ℕ) (c : Class) (at : ℕ) (a : PartAt ks ws c at) (r : Walk) (p : Passed ks ws ((c, 1) ∷ []) at None (at + 1) r) where
+  walked : go ks ws ((c, 1) ∷ []) at None ≡ r
+  walked = one_passed ks ws (c, 1) at None (at + 1) r p
 
-    pub ended : (e d : ℕ) → r ≡ End e d → EndOf ks ws (class_at x) at e
-    ended e d q ρ v end s = let t = ends_there ρ ks ws a.part.same (class_at x) 1 at deep v end s in let z : End e d ≡ End end t.0 = sym (walked ∙ q) ∙ t.1 in cc
+  -- the walk ends where a tree that stands there does
+  walk_ends : (ρ : ℕ → Name) (v : Tree c) (end : ℕ) → Stands ρ ks ws c v at end → (d : Option ℕ) × (r ≡ Ok (record { next = end; deep = d }))
+  walk_ends ρ v end s = let t = ends_there ρ ks ws a.same c 1 at None v end s in (t.0, sym walked ∙ t.1)
 
-    pub never : (e : ℕ) → r ≡ Bad e → ⊥
-    never e q =
-        let t = ends_there (λ n. []) ks ws a.part.same (class_at x) 1 at deep a.part.tree a.part.end a.part.stands in
-        let b : Bad e ≡ End a.part.end t.0 = sym (walked ∙ q) ∙ t.1 in
-        let z : ◌≡◌ {A = ℕ} 0 1 = cc in omega arith
+  pub ended : (e : Reached) → r ≡ Ok e → EndOf ks ws c at e.next
+  ended e q ρ v end s = let z = (walk_ends ρ v end s).1 in cc
+
+  pub never : (e : ℕ) → r ≡ Err e → ⊥
+  never e q = let z = (walk_ends (λ n. []) a.tree a.end a.stands).1 in cc

@@ -1,11 +1,9 @@
 pub mod Spells
 pub mod Grammar
-pub mod Levels
 pub mod Steps
 pub mod Passes
 pub mod Words
 pub mod Ranges
-pub mod Rows
 pub mod Agree
 pub mod Projects
 pub mod Parts

@@ -8,7 +8,7 @@ use native.Mathlib.Omega.{arith}
 use lib.ListN.{length, replicate, get_or, take, drop, length-append, length-take, length-drop, take-append-drop}
 use lib.Seq.{take_at, drop_at, drop-append-le, drop-drop}
 use Rattle.lustre.specs.Name.{Name, mem}
-use Rattle.lustre.specs.Records.{Rec, word_class, class_in, spell}
+use Rattle.lustre.specs.Records.{Rec, a_count, word_class, class_in, spell}
 use Rattle.lustre.specs.Records as records
 use Rattle.lustre.specs.Grammar.{Sort, Class, one, list, a_project, Single, Tree, Trees, follow, Entry, entries, entry, gather, front, got, read, read_project, whole, numbered_rec, each_of, flat_one, flat_part, flat_parts}
 use Rattle.lustre.specs.Answer.{no_project, project_in}
@@ -17,7 +17,6 @@ use Rattle.demands.proofs.ReadBack.{step, reads_back, same_parts}
 use Rattle.demands.proofs.FlatBack.{Writables, written, parts_append, flat_append}
 use Rattle.demands.proofs.Reading.{spelled_tidy, whole_project}
 use Rattle.records.specs.Stands.{Stands}
-use Rattle.records.specs.Tables.{word_number}
 use Rattle.records.proofs.Spells.{rec_at, kind_at, number_at, spell_take, spell_drop, spell_length, spell_at}
 
 -- how many records a tree has
@@ -128,14 +127,14 @@ module _ (ρ : ℕ → Name) (ks ws : List ℕ) (same : length ks ≡ length ws)
 
   -- a list record: its kind, its count, and its trees one after the other
   pub list_inv : (s : Sort) (xs : List (Single s)) (at end : ℕ) → Stands ρ ks ws (list s) xs at end → (get_or ks at 0 ≡ 3) × (get_or ws at 0 ≡ length xs) × ListStands ρ ks ws s xs (at + 1) end
-  unfolding word_class records.word_classes class_in mem word_number
+  unfolding word_class records.word_classes class_in mem
   list_inv s xs at end t =
       let h : at < length ks = omega (arith, t.before, t.within) in
       let q : rec_at ρ ks ws at ∷ drop (at + 1) rs ≡ numbered_rec 3 (length xs) ∷ each_of (flat_one s) xs (drop end rs) = sym (spell_at ρ ks ws at h same) ∙ t.flat in
       let r : rec_at ρ ks ws at ≡ numbered_rec 3 (length xs) = cc in
       let k : get_or ks at 0 ≡ 3 = sym (kind_at ρ ks ws at) ∙ ap (λ (x : Rec). x.kind) r in
-      let n : word_number (word_class (get_or ks at 0)) ≡ 3 = ap (λ (x : ℕ). word_number (word_class x)) k in
-      (k, sym (number_at ρ ks ws at (omega arith)) ∙ ap (λ (x : Rec). x.number) r, stand_each s xs (at + 1) end t.writable (omega arith) t.within (cc))
+      let n : word_class (get_or ks at 0) ≡ some a_count = ap word_class k in
+      (k, sym (number_at ρ ks ws at n) ∙ ap (λ (x : Rec). x.number) r, stand_each s xs (at + 1) end t.writable (omega arith) t.within (cc))
 
   -- what stands where a record of a kind is: the kind's tree, of what stands behind the record
   pub inv : (c : Class) (v : Tree c) (at end : ℕ) → Stands ρ ks ws c v at end → (e : Entry c) → entry (get_or ks at 0) (entries c) ≡ some e

@@ -1,6 +1,6 @@
 -- The walk of a reader over the records: a record in range is passed, and where the walk stops stands the first out of range, or the end.
 -- Assumes nothing.
-use mathlib.Core.Path.{◌≡◌, refl, ap}
+use mathlib.Core.Path.{◌≡◌, refl, ap, sym}
 use mathlib.Core.Bool.{Bool, true, false}
 use mathlib.Core.List.{List}
 use mathlib.Core.Logic.{◌⊎◌, inl, inr}
@@ -8,10 +8,12 @@ use Prim.Native.Nat.{ℕ, ◌+◌, ◌≤◌, ◌<◌}
 use native.Mathlib.Omega.{arith}
 use lib.Dec.{ltb}
 use lib.ListN.{length}
-use borrow.Author.Tests.{ltb-true, ltb-false, lt-ltb, le-ltb}
+use borrow.Author.Tests.{ltb-true, ltb-false, lt-ltb}
+use Rattle.std.proofs.Common.{None, Some}
 use Rattle.reader.specs.declared.Reader.{Reader}
 use Rattle.reader.specs.Move.{pick, count, moved}
-use Rattle.records.specs.Ranges.{judged, bad_from, record_at}
+use Rattle.records.specs.Ranges.{judged, bad_from}
+use Rattle.records.specs.Tables.{placed}
 use Rattle.records.proofs.Words as words
 
 -- the shorter length is below both, and is one of them
@@ -53,14 +55,12 @@ module _ (names : ℕ) (r : Reader) where
     passed e = rw next_place (words.bad_next names r.at ks ws in_kinds in_words (judged names r) refl e)
 
     -- any other is the one looked for
-    pub found : judged names r ≡ false → bad_from names r ≡ record_at r.at (count r)
-    found e = rw (lt-ltb r.at (count r) h) (words.bad_here names r.at ks ws in_kinds in_words (judged names r) refl e)
+    pub found : judged names r ≡ false → Some r.at ≡ placed (bad_from names r)
+    found e = ap placed (sym (words.bad_here names r.at ks ws in_kinds in_words (judged names r) refl e))
 
   -- at the end there is none
-  pub ended : count r ≤ r.at → bad_from names r ≡ record_at r.at (count r)
-  ended h = rw (le-ltb r.at (count r) h) (
-      elim (one (length ks) (length ws) r.at (ltb (length ks) (length ws)) h) [
-        | inl k ↦ words.bad_kinds names r.at ks ws k
-        | inr k ↦ words.bad_words names r.at ks ws k
-      ]
-      )
+  pub ended : count r ≤ r.at → None ≡ placed (bad_from names r)
+  ended h = ap placed (sym (elim (one (length ks) (length ws) r.at (ltb (length ks) (length ws)) h) [
+    | inl k ↦ words.bad_kinds names r.at ks ws k
+    | inr k ↦ words.bad_words names r.at ks ws k
+  ]))

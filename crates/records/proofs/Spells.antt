@@ -1,6 +1,6 @@
 -- Spelled records: their kinds and numbers whatever the names are, how many they are, and the records of parts of kinds and words.
 -- Assumes nothing.
-use mathlib.Core.Path.{◌≡◌, refl, ap, sym, ◌∙◌}
+use mathlib.Core.Path.{◌≡◌, refl, ap}
 use mathlib.Core.List.{List, [], ◌∷◌}
 use mathlib.Core.Option.{Option, none, some}
 use Prim.Native.Nat.{ℕ, zero, suc, ◌+◌, ◌≤◌, ◌<◌}
@@ -10,7 +10,6 @@ use native.Mathlib.Omega.{arith}
 use lib.ListN.{length, get_or, take, drop, drop_of_length-le}
 use Rattle.lustre.specs.Name.{Name}
 use Rattle.lustre.specs.Records.{Rec, WordClass, no_word, a_name, a_count, a_length, a_truth, any_word, a_byte, word_class, spell_as, spell}
-use Rattle.records.specs.Tables.{word_number}
 
 -- a spelled record keeps its kind, and its number does not depend on the text
 pub spelled : (o : Option WordClass) (k w : ℕ) (t u : Name) → ((spell_as o k w t).kind ≡ k) × ((spell_as o k w t).number ≡ (spell_as o k w u).number)
@@ -24,37 +23,14 @@ spelled (some a_truth) k w t u = (refl, refl)
 spelled (some any_word) k w t u = (refl, refl)
 spelled (some a_byte) k w t u = (refl, refl)
 
--- the class of words that a number is that of
-unfoldable pub word_of : ℕ → Option WordClass
-word_of n = get_or (none ∷ some no_word ∷ some a_name ∷ some a_count ∷ some a_length ∷ some a_truth ∷ some any_word ∷ some a_byte ∷ []) n none
+-- a count is a number, and a name a text
+numbered : (k w : ℕ) (t : Name) → (spell_as (some a_count) k w t).number ≡ w
+unfolding spell_as
+numbered k w t = refl
 
-pub word_back : (o : Option WordClass) → word_of (word_number o) ≡ o
-unfolding word_of word_number
-word_back none = refl
-word_back (some no_word) = refl
-word_back (some a_name) = refl
-word_back (some a_count) = refl
-word_back (some a_length) = refl
-word_back (some a_truth) = refl
-word_back (some any_word) = refl
-word_back (some a_byte) = refl
-
--- a count, a length, a truth value, any word and a byte are numbers
-numbered : (o : Option WordClass) (k w : ℕ) (t : Name) → 3 ≤ word_number o → (spell_as o k w t).number ≡ w
-unfolding spell_as word_number
-numbered none k w t h = absurd (omega arith)
-numbered (some no_word) k w t h = absurd (omega arith)
-numbered (some a_name) k w t h = absurd (omega arith)
-numbered (some a_count) k w t h = refl
-numbered (some a_length) k w t h = refl
-numbered (some a_truth) k w t h = refl
-numbered (some any_word) k w t h = refl
-numbered (some a_byte) k w t h = refl
-
--- a name is a text
-named : (o : Option WordClass) (k w : ℕ) (t : Name) → word_number o ≡ 2 → (spell_as o k w t).text ≡ t
-unfolding spell_as word_of
-named o k w t q = ap (λ (o : Option WordClass). (spell_as o k w t).text) (sym (word_back o) ∙ ap word_of q)
+named : (k w : ℕ) (t : Name) → (spell_as (some a_name) k w t).text ≡ t
+unfolding spell_as
+named k w t = refl
 
 module _ (ρ : ℕ → Name) where
   spell_nil : (ks : List ℕ) → spell ρ ks [] ≡ []
@@ -103,11 +79,11 @@ module _ (ρ : ℕ → Name) where
   pub kind_at : (ks ws : List ℕ) (at : ℕ) → (rec_at ks ws at).kind ≡ get_or ks at 0
   kind_at ks ws at = (spelled (word_class (get_or ks at 0)) (get_or ks at 0) (get_or ws at 0) (ρ (get_or ws at 0)) []).0
 
-  pub number_at : (ks ws : List ℕ) (at : ℕ) → 3 ≤ word_number (word_class (get_or ks at 0)) → (rec_at ks ws at).number ≡ get_or ws at 0
-  number_at ks ws at h = numbered (word_class (get_or ks at 0)) (get_or ks at 0) (get_or ws at 0) (ρ (get_or ws at 0)) h
+  pub number_at : (ks ws : List ℕ) (at : ℕ) → word_class (get_or ks at 0) ≡ some a_count → (rec_at ks ws at).number ≡ get_or ws at 0
+  number_at ks ws at q = rw q (numbered (get_or ks at 0) (get_or ws at 0) (ρ (get_or ws at 0)))
 
-  pub text_at : (ks ws : List ℕ) (at : ℕ) → word_number (word_class (get_or ks at 0)) ≡ 2 → (rec_at ks ws at).text ≡ ρ (get_or ws at 0)
-  text_at ks ws at q = named (word_class (get_or ks at 0)) (get_or ks at 0) (get_or ws at 0) (ρ (get_or ws at 0)) q
+  pub text_at : (ks ws : List ℕ) (at : ℕ) → word_class (get_or ks at 0) ≡ some a_name → (rec_at ks ws at).text ≡ ρ (get_or ws at 0)
+  text_at ks ws at q = rw q (named (get_or ks at 0) (get_or ws at 0) (ρ (get_or ws at 0)))
 
   pub spell_at : (ks ws : List ℕ) (at : ℕ) → at < length ks → length ks ≡ length ws → drop at (spell ρ ks ws) ≡ rec_at ks ws at ∷ drop (at + 1) (spell ρ ks ws)
   unfolding spell

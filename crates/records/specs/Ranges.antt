@@ -1,7 +1,7 @@
 -- Words in range, by a reader: how the record that it stands at is judged, and the first out of range from there on.
 -- Assumes nothing: these are definitions.
-use Rattle.std.specs.Prelude.{ℕ, Bool, ltb, get_or, drop, if◌then◌else◌}
-use Rattle.std.proofs.Math.Option.{Option, none, some}
+use Rattle.std.specs.Prelude.{ℕ, Bool, get_or, drop}
+use Rattle.std.proofs.Math.Option.{Option}
 use Rattle.lustre.specs.Records.{word_class, in_class, bad_record}
 use Rattle.reader.specs.declared.Reader.{Reader}
 
@@ -12,7 +12,3 @@ judged names r = in_class names (word_class (get_or r.kinds.now r.at 0)) (get_or
 -- the first record out of range, from where the reader stands on
 abbrev pub bad_from : ℕ → Reader → Option ℕ
 bad_from names r = bad_record names r.at (drop r.at r.kinds.now) (drop r.at r.words.now)
-
--- the record at a place, where there are so many
-abbrev pub record_at : ℕ → ℕ → Option ℕ
-record_at at count = if ltb at count then some at else none

@@ -5,7 +5,6 @@ use Rattle.lustre.specs.Name.{Name}
 use Rattle.lustre.specs.Records.{spell}
 use Rattle.lustre.specs.Grammar.{Class, Tree, flat_part}
 use Rattle.demands.specs.Reading.{Writable}
-use Rattle.records.specs.Places.{class_at, IsClass}
 
 -- the records from `at` up to `end` are those of the tree v
 pub record Stands (ρ : ℕ → Name) (ks ws : List ℕ) (c : Class) (v : Tree c) (at end : ℕ) : Type 0 where
@@ -24,7 +23,3 @@ pub record PartAt (ks ws : List ℕ) (c : Class) (at : ℕ) : Type 0 where
 -- what a function on a part answers: where the tree that stands there ends, under any numbering of names
 abbrev pub EndOf : (ks ws : List ℕ) (c : Class) → ℕ → ℕ → Type 0
 EndOf ks ws c at r = (ρ : ℕ → Name) (v : Tree c) (end : ℕ) → Stands ρ ks ws c v at end → r ≡ end
-
-pub record EndAsked (ks ws : List ℕ) (x at : ℕ) : Type 0 where
-  pub class : IsClass x
-  pub part : PartAt ks ws (class_at x) at

@@ -1,413 +1,243 @@
 // The records: known kinds (refusal 4) with words in range (refusal 8), one project (refusal 5) of bounded levels (refusal 6), and the end
 // of the part that starts at a record. Document 01, 'Records, in order of writing', and request 2.2. Any kinds and words are taken; where
 // one slice is longer, its rest is not read.
-// Words in range are judged one by one, by a `Reader`; `first_bad` is that on plain slices. The tables of kinds are lustre's grammar in
-// numbers: one computed test over all kinds and sorts shows it.
+// Words in range are judged one by one, by a `Reader`; `first_bad` is that on plain slices.
 #![tactic(auto)]
 
 mod tables;
 
-ghost use Rattle.std.specs.Prelude.{◌≡◌, ◌+◌, ◌<◌};
+ghost use Rattle.std.specs.Prelude.{◌≡◌, ℕ, ◌+◌, ◌<◌, ◌≤◌, [], ◌∷◌, map, replicate, length};
+ghost use Rattle.lustre.specs.Levels.{inner_of, too_deep};
 ghost use Rattle.lustre.specs.Records.{word_class, is_known, in_class, bad_record};
-ghost use Rattle.records.specs.Ranges.{judged, bad_from, record_at};
-ghost use Rattle.records.specs.Places.{mark, class_at, Passed};
-ghost use Rattle.records.specs.Stands.{EndAsked, EndOf};
-ghost use Rattle.records.specs.Tables.{sort_in, operand_at, inner_number, PartAsked, OperandsAsked, Looked, one_want, many_wants, operand_wants, word_number, placed, Structured};
+ghost use Rattle.records.specs.Ranges.{judged, bad_from};
+ghost use Rattle.records.specs.Places.{class_of, wanted, mark, wants, Passed};
+ghost use Rattle.records.specs.Stands.{PartAt, EndOf};
+ghost use Rattle.records.specs.Tables.{placed, Structured};
 
+use lustre::{MAX_RECORDS, Refusal};
 use reader::Reader;
+pub use tables::{Class, Sort};
+use tables::{Shape, WordClass};
 
-// No record: the value of a place that there is none of.
-const NO_PLACE: usize = 18446744073709551615;
+// The most levels of a type and of an expression.
+const TYPE_LEVELS: usize = 68;
 
-// Where reading stops: past the last record read, with the first record too deep, or at the record that cannot stand there.
-#[derive(Drop)]
-pub enum Read {
-    End(usize, usize),
-    Bad(usize),
-}
+const EXPRESSION_LEVELS: usize = 60;
 
-// What a record asks to follow it, if it can stand where a class is wanted at a level: as many of a class as its word says, or the
-// parts of the table of operands from an index on.
-#[derive(Drop)]
-pub enum Follow {
-    Nothing,
-    Each { class: u8, level: usize, count: u64 },
-    Parts(usize),
-}
-
-// A record's number, if there is one.
-#[derive(Drop)]
-pub enum Place {
-    At(usize),
-    Nowhere,
-}
-
-// What the records are: one project, or refusal 5 or 6 with its place.
-#[derive(Drop)]
-pub enum Structure {
-    Project,
-    NoProject(usize),
-    TooDeep(usize),
-}
-
-// The sort of a kind, 0 for no kind: those from 20 are types, those from 40 expressions.
-fn sort_of(kind: u8) -> u8
-    ensures { result ≡ sort_in kind }
-{
-    if kind < 14 {
-        return tables::SORTS[kind as usize];
-    }
-    if kind < 20 {
-        return 0;
-    }
-    if kind < 34 {
-        return 9;
-    }
-    if kind < 40 {
-        return 0;
-    }
-    if kind < 84 {
-        return 10;
-    }
-    if kind == 84 {
-        return 11;
-    }
-    0
-}
-
-// The entry of the table of operands at an index, 0 past its end. The kinds from 14 to 66 need no table: an array type has a type, not and
-// minus have one expression, the operators two, and nothing follows the others.
-fn operand_at(i: usize) -> u8
-    ensures { result ≡ operand_at i }
-{
-    if i < 84 {
-        return tables::DECLARATIONS[i];
-    }
-    if i < 270 {
-        if i == 192 {
-            return 9;
-        }
-        return 0;
-    }
-    if i < 282 {
-        if i % 6 == 0 {
-            return 10;
-        }
-        return 0;
-    }
-    if i < 402 {
-        if i % 6 < 2 {
-            return 10;
-        }
-        return 0;
-    }
-    if i < 510 {
-        return tables::EXPRESSIONS[i - 402];
-    }
-    0
-}
-
-// The level of a part that follows a record: lists and field values add none, a cast's type starts anew.
-fn inner_level(class: u8, part: u8, level: usize) -> usize
-    requires { level < 18446744073709551615 }
-    ensures { result ≡ inner_number class part level }
-{
-    if class >= 16 {
-        return level;
-    }
-    if class == 11 {
-        return level;
-    }
-    if class == 10 {
-        if part == 9 {
-            return 1;
-        }
-        if part == 25 {
-            return 1;
-        }
-        return level + 1;
-    }
-    if class == 9 {
-        return level + 1;
-    }
-    1
-}
-
-// The first record too deep, after the one at a place: a type past level 68, an expression past level 60.
-fn deepest(class: u8, level: usize, at: usize, deep: usize) -> usize
-    ensures { result ≡ mark (class_at class, level) at deep }
-{
-    if deep != NO_PLACE {
-        return deep;
-    }
-    if class == 9 {
-        if 68 < level {
-            return at;
-        }
-        return deep;
-    }
-    if class == 10 {
-        if 60 < level {
-            return at;
-        }
-    }
-    deep
-}
-
-// Judges one record where a class is wanted at a level.
-fn look(kinds: &[u8], words: &[u64], class: u8, level: usize, at: usize) -> Follow
-    requires { PartAsked kinds.now words.now class level at }
-    ensures { Looked kinds.now words.now class level at result }
-{
-    if kinds.len() <= at {
-        return Follow::Nothing;
-    }
-    let kind = kinds[at];
-    let word = words[at];
-    if class >= 16 {
-        if kind == 3 {
-            return Follow::Each {
-                class: class - 16,
-                level: level,
-                count: word,
-            };
-        }
-        return Follow::Nothing;
-    }
-    if sort_of(kind) == class {
-        let from = kind as usize * 6;
-        let first = operand_at(from);
-        if first >= 32 {
-            return Follow::Each {
-                class: first - 32,
-                level: inner_level(class, first - 32, level),
-                count: word,
-            };
-        }
-        return Follow::Parts(from);
-    }
-    Follow::Nothing
-}
-
-// Reads one part of a class at a level.
-#[cycle(items_operands_part)]
-fn part(kinds: &[u8], words: &[u64], class: u8, level: usize, at: usize, deep: usize) -> Read
-    requires { PartAsked kinds.now words.now class level at }
-    ensures { Passed kinds.now words.now (one_want class level) at deep (at + 1) result }
-{
-    match look(kinds, words, class, level, at) {
-        Follow::Nothing => Read::Bad(at),
-        Follow::Each {
-            class: c,
-            level: l,
-            count,
-        } => items(
-            kinds,
-            words,
-            c,
-            l,
-            count,
-            at + 1,
-            deepest(class, level, at, deep),
-        ),
-        Follow::Parts(from) => operands(
-            kinds,
-            words,
-            class,
-            level,
-            from,
-            at + 1,
-            deepest(class, level, at, deep),
-        ),
-    }
-}
-
-// Reads count parts of a class at a level.
-#[cycle(items_operands_part)]
-fn items(
-    kinds: &[u8],
-    words: &[u64],
-    class: u8,
+// What is wanted at a record: a class of parts at a level.
+#[derive(Clone, Copy)]
+struct Want {
+    class: Class,
     level: usize,
-    count: u64,
-    at: usize,
-    deep: usize,
-) -> Read
-    requires { PartAsked kinds.now words.now class level at }
-    ensures { Passed kinds.now words.now (many_wants class level count) at deep at result }
-{
-    let mut left = count;
-    let mut next = at;
-    let mut first = deep;
-    while left > 0 {
-        match part(kinds, words, class, level, next, first) {
-            Read::End(e, d) => {
-                next = e;
-                first = d;
-                left -= 1;
-            }
-            Read::Bad(p) => {
-                return Read::Bad(p);
-            }
-        }
-    }
-    Read::End(next, first)
 }
 
-// Reads the parts of the table of operands from an index on, after a record of a class at a level.
-#[cycle(items_operands_part)]
-fn operands(
-    kinds: &[u8],
-    words: &[u64],
-    class: u8,
-    level: usize,
-    from: usize,
-    at: usize,
-    deep: usize,
-) -> Read
-    requires { OperandsAsked kinds.now words.now class level from at }
-    ensures { Passed kinds.now words.now (operand_wants class level from) at deep at result }
-{
-    let mut i = from;
-    let mut next = at;
-    let mut first = deep;
-    let mut c = operand_at(i);
-    while c != 0 {
-        match part(kinds, words, c, inner_level(class, c, level), next, first) {
-            Read::End(e, d) => {
-                next = e;
-                first = d;
-                i += 1;
-                c = operand_at(i);
-            }
-            Read::Bad(p) => {
-                return Read::Bad(p);
-            }
+// Where reading has come: the next record, and the first record too deep, if there is one.
+#[derive(Clone, Copy)]
+struct Reached {
+    next: usize,
+    deep: Option<usize>,
+}
+
+// The records whose structure is read, as many kinds as words.
+#[derive(Clone, Copy)]
+struct Structure<'a> {
+    kinds: &'a [u8],
+    words: &'a [u64],
+    ghost same: { length kinds.now ≡ length words.now },
+}
+
+impl Want {
+    // A part of a class behind a record that is wanted: lists and field values add no level, a cast's type starts anew.
+    #[tactic(auto, unfolding(lustre::specs::Levels::inner_of, lustre::specs::Levels::inner))]
+    fn inner(self, part: Class) -> Want
+        requires { self.level < usize.MAX }
+        ensures wanted { inner_of (class_of self.class) self.level (class_of part) ≡ wanted result }
+        ensures deeper { result.level ≤ self.level + 1 }
+    {
+        let level = match (self.class, part) {
+            (Class::List(_) | Class::One(Sort::FieldValue), _) => self.level,
+            (Class::One(Sort::Expression), Class::One(Sort::Type) | Class::List(Sort::Type)) => 1,
+            (Class::One(Sort::Expression | Sort::Type), _) => self.level + 1,
+            _ => 1,
+        };
+        Want { class: part, level }
+    }
+
+    // Whether a record of the class is too deep at the level.
+    #[tactic(auto, unfolding(lustre::specs::Levels::too_deep))]
+    fn is_too_deep(self) -> bool
+        ensures { result ≡ too_deep (class_of self.class) self.level }
+    {
+        match self.class {
+            Class::One(Sort::Type) => self.level > TYPE_LEVELS,
+            Class::One(Sort::Expression) => self.level > EXPRESSION_LEVELS,
+            _ => false,
         }
     }
-    Read::End(next, first)
+}
+
+impl Reached {
+    // Past the next record, which is of the class and at the level that are wanted.
+    #[tactic(auto, unfolding(crate::specs::Places::mark))]
+    fn past(self, want: Want) -> Reached
+        requires { self.next < usize.MAX }
+        ensures next { result.next ≡ self.next + 1 }
+        ensures deep { result.deep ≡ mark (wanted want) self.next self.deep }
+    {
+        let deep = match self.deep {
+            None if want.is_too_deep() => Some(self.next),
+            deep => deep,
+        };
+        Reached {
+            next: self.next + 1,
+            deep,
+        }
+    }
+}
+
+impl<'a> Structure<'a> {
+    // Reads one part, or gives the record that cannot stand.
+    #[cycle(part)]
+    fn part(&self, want: Want, from: Reached) -> Result<Reached, usize>
+        requires inside { from.next ≤ length self.now.kinds.now }
+        requires level { want.level ≤ from.next + 1 }
+        ensures { Passed self.now.kinds.now self.now.words.now (wanted want ∷ []) from.next from.deep (from.next + 1) result }
+    {
+        if from.next >= self.kinds.len() {
+            return Err(from.next);
+        }
+        match tables::shape_of(want.class, self.kinds[from.next]) {
+            None => Err(from.next),
+            Some(Shape::Each(class)) => {
+                self.items(want.inner(class), self.words[from.next], from.past(want))
+            }
+            Some(Shape::Parts(classes)) => self.operands(want, classes, from.past(want)),
+        }
+    }
+
+    // Reads so many parts that are wanted.
+    #[cycle(part)]
+    fn items(&self, want: Want, count: u64, from: Reached) -> Result<Reached, usize>
+        requires inside { from.next ≤ length self.now.kinds.now }
+        requires level { want.level ≤ from.next + 1 }
+        ensures { Passed self.now.kinds.now self.now.words.now (replicate count (wanted want)) from.next from.deep from.next result }
+    {
+        let mut reached = from;
+        for _ in 0..count {
+            reached = self.part(want, reached)?;
+        }
+        Ok(reached)
+    }
+
+    // Reads a part of each class, behind a record that is wanted.
+    #[cycle(part)]
+    fn operands(&self, want: Want, classes: &[Class], from: Reached) -> Result<Reached, usize>
+        requires inside { from.next ≤ length self.now.kinds.now }
+        requires level { want.level ≤ from.next }
+        ensures { Passed self.now.kinds.now self.now.words.now (wants (wanted want) (map class_of classes.now)) from.next from.deep from.next result }
+    {
+        let mut reached = from;
+        for class in classes {
+            reached = self.part(want.inner(*class), reached)?;
+        }
+        Ok(reached)
+    }
 }
 
 // Refusals 5 and 6 in one pass: the records form one project, or the first that cannot stand or is left over (the record count if they
 // end early), or the first too deep.
-pub fn check_structure(kinds: &[u8], words: &[u64]) -> Structure
+pub fn check_structure(kinds: &[u8], words: &[u64]) -> Result<(), Refusal>
     ensures { Structured kinds.now words.now result }
 {
-    let n = if kinds.len() < words.len() {
-        kinds.len()
-    } else {
-        words.len()
+    let n = kinds.len().min(words.len());
+    let structure = Structure {
+        kinds: &kinds[..n],
+        words: &words[..n],
     };
-    match part(&kinds[..n], &words[..n], 1, 1, 0, NO_PLACE) {
-        Read::Bad(p) => Structure::NoProject(p),
-        Read::End(e, d) => {
-            if e < n {
-                return Structure::NoProject(e);
-            }
-            if d != NO_PLACE {
-                return Structure::TooDeep(d);
-            }
-            Structure::Project
-        }
+    let project = Want {
+        class: Class::One(Sort::Project),
+        level: 1,
+    };
+    let start = Reached {
+        next: 0,
+        deep: None,
+    };
+    match structure.part(project, start) {
+        Err(at) => Err(Refusal::NoProject(at as u64)),
+        Ok(end) if end.next < n => Err(Refusal::NoProject(end.next as u64)),
+        Ok(end) => match end.deep {
+            Some(at) => Err(Refusal::TooDeep(at as u64)),
+            None => Ok(()),
+        },
     }
 }
 
 // The end of the part of a class that stands at a position.
-pub fn part_end(kinds: &[u8], words: &[u64], class: u8, at: usize) -> usize
-    requires { EndAsked kinds.now words.now class at }
-    ensures { EndOf kinds.now words.now (class_at class) at result }
+pub fn part_end(kinds: &[u8], words: &[u64], class: Class, at: usize) -> usize
+    requires { PartAt kinds.now words.now (class_of class) at }
+    ensures { EndOf kinds.now words.now (class_of class) at result }
 {
-    match part(kinds, words, class, 1, at, NO_PLACE) {
-        Read::End(e, _) => e,
-        Read::Bad(p) => p,
+    let structure = Structure { kinds, words };
+    let start = Reached {
+        next: at,
+        deep: None,
+    };
+    match structure.part(Want { class, level: 1 }, start) {
+        Ok(end) => end.next,
+        Err(at) => at,
     }
-}
-
-// The class of a kind's word: 0 for no kind, 1 (no word) for the operators and what stands beside them.
-fn word_class(kind: u8) -> u8
-    ensures { result ≡ word_number (word_class kind) }
-{
-    if kind < 45 {
-        return tables::CLASSES[kind as usize];
-    }
-    if kind < 70 {
-        return 1;
-    }
-    if kind < 85 {
-        return tables::LATER_CLASSES[kind as usize - 70];
-    }
-    0
 }
 
 // Whether a kind is known.
+#[tactic(auto, unfolding(lustre::specs::Records::is_known))]
 pub fn is_known(kind: u8) -> bool
     ensures { result ≡ is_known (word_class kind) }
 {
-    word_class(kind) != 0
+    tables::word_class(kind).is_some()
 }
 
 // Whether a word is in the range of its kind, where there are so many names.
+#[tactic(auto, unfolding(lustre::specs::Records::in_class))]
 fn in_range(names: u64, kind: u8, word: u64) -> bool
     ensures { result ≡ in_class names (word_class kind) word }
 {
-    let class = word_class(kind);
-    if class == 1 {
-        return word == 0;
+    match tables::word_class(kind) {
+        None => false,
+        Some(WordClass::Nothing) => word == 0,
+        Some(WordClass::Name) => word < names,
+        Some(WordClass::Count) => word <= MAX_RECORDS as u64,
+        Some(WordClass::Length) => word <= u64::from(u32::MAX),
+        Some(WordClass::Truth) => word < 2,
+        Some(WordClass::Anything) => true,
+        Some(WordClass::Byte) => word <= u64::from(u8::MAX),
     }
-    if class == 2 {
-        return word < names;
-    }
-    if class == 3 {
-        return word < 4097;
-    }
-    if class == 4 {
-        return word < 4294967296;
-    }
-    if class == 5 {
-        return word < 2;
-    }
-    if class == 7 {
-        return word < 256;
-    }
-    class == 6
-}
-
-// The place of a record, where there are so many.
-fn place_at(at: usize, count: usize) -> Place
-    ensures { result ≡ placed (record_at at count) }
-{
-    if at < count {
-        return Place::At(at);
-    }
-    Place::Nowhere
 }
 
 // Whether the word that the reader stands at is in the range of its kind.
-fn judge<'a>(r: Reader<'a>, names: u64) -> bool
+fn judge(r: Reader, names: u64) -> bool
     ensures { result ≡ judged names r.entry }
 {
-    in_range(names, reader::kind(r), reader::word(r))
+    in_range(names, r.kind(), r.word())
 }
 
 // The first record out of range, from where the reader stands on.
-pub fn first_bad_from<'a>(r: Reader<'a>, names: u64) -> Place
+// Kept: it walks by the reader, whose `next` counts the records.
+pub fn first_bad_from(r: Reader, names: u64) -> Option<usize>
     ensures { result ≡ placed (bad_from names r.entry) }
 {
-    let count = reader::count(r);
     let mut s = r;
-    while s.at < count {
-        if judge(s, names) {
-            s = reader::next(s);
-        } else {
-            break;
+    while s.at < s.count() {
+        if !judge(s, names) {
+            return Some(s.at);
         }
+        s = s.next();
     }
-    place_at(s.at, count)
+    None
 }
 
 // Refusals 4 and 8: the first record whose kind is unknown or whose word is out of range. It makes a reader, and walks by it.
-pub fn first_bad(kinds: &[u8], words: &[u64], names: u64) -> Place
+pub fn first_bad(kinds: &[u8], words: &[u64], names: u64) -> Option<usize>
     ensures { result ≡ placed (bad_record names 0 kinds.now words.now) }
 {
-    first_bad_from(reader::new(kinds, words), names)
+    first_bad_from(Reader::new(kinds, words), names)
 }

@@ -1,6 +1,6 @@
 -- Laws of the report on a file: what is printed and the status depend on the report alone, where the lines that are lent hold it.
 -- Assumes nothing.
-use Rattle.std.specs.Prelude.{if◌then◌else◌}
+use Rattle.std.specs.Prelude.{if◌then◌else◌, Some, None}
 use Prim.Native.Nat.{ℕ, ◌≤◌, min}
 use native.Mathlib.Omega.{arith}
 use mathlib.Core.Path.{◌≡◌, refl, sym, subst, ap, ◌∙◌}
@@ -9,8 +9,8 @@ use mathlib.Core.List.{List, [], ◌∷◌, ◌++◌, map, append-nil}
 use mathlib.Core.Option.{Option, none, some}
 use borrow.Author.Tests.{leb-true, eq-eqb, ne_eqb, eqb-true, eqb-false}
 use lib.Dec.{eqb, leb}
-use lib.ListN.{length, take, drop, replicate, length-map, length-replicate}
-use lib.Seq.{take_all, take-length, take-take, take-append_seam}
+use lib.ListN.{length, take, drop, length-map}
+use lib.Seq.{take_all, take-length, take-append_seam}
 use Rattle.lustre.specs.Names.{bad_name, names_of}
 use Rattle.lustre.specs.Project.{Project}
 use Rattle.lustre.specs.Report.{report, followed}
@@ -20,19 +20,17 @@ use Rattle.lustre.specs.declared.Answer.{Answer}
 use Rattle.lustre.specs.declared.Answer.TheVariants.{Report as Reporting, Refused, MoreLines}
 use Rattle.lustre.specs.declared.Refusal.TheVariants.{Sizes}
 use Rattle.lustre.proofs.Lowest.{refusal_above, reports, passes}
-use Rattle.staging.specs.Batches.{blank}
-use Rattle.checker.specs.Call.{AllChecked}
-use Rattle.checker.specs.declared.Report.{Report}
+use Rattle.checker.specs.Call.{Checked}
 use Rattle.format.specs.File.{Model, parse, kinds_of, text_of, Decoded}
 use Rattle.format.specs.Output.{line, header, line_count, output_lines, joined, printed, output_of}
 use Rattle.format.specs.Buffers.{Rendered, Filled}
-use Rattle.format.specs.declared.File.{File}
-use Rattle.format.specs.declared.File.TheVariants.{Wrong, Parts}
+use Rattle.format.specs.declared.Sizes as Format
 use Rattle.format.proofs.Fill.{output_whole}
 use Rattle.format.proofs.Room.{header_short, output_always, names_short}
-use Rattle.format.proofs.Callers.{decoded_wrong, decoded_parts}
+use Rattle.format.proofs.Callers.{decoded_none, decoded_some}
 use Rattle.response.specs.declared.Response.{Response}
-use Rattle.response.specs.Response.{wrong_report, any_error, status_of, lines_to, status_to, Answered, Responded}
+use Rattle.response.specs.declared.Status.TheVariants as Run
+use Rattle.response.specs.Response.{any_error, status_of, lines_to, status_to, Answered, Responded}
 
 -- a report is what is left when nothing is refused; refusal 3 does not apply
 report_only : (kinds ws text : List ℕ) (work room : ℕ) → refusal_of (answer kinds ws text work room) ≡ 0 → (bad_name text ≡ none) × (answer kinds ws text work room ≡ reported room (project_of kinds ws text))
@@ -95,39 +93,33 @@ none_counted : (a : Answer) → (refusal_of a ≡ 0 → ⊥) → line_count a �
 unfolding line_count
 none_counted a h = simp (ne_eqb (refusal_of a) 0 h)
 
--- as many lines as are lent
-abbrev lent : ℕ → List Line
-lent room = replicate (min room 1024) blank
-
 -- the lines that are printed after the call are those of the report
-pub called_lines : {kinds ws text work work' : List ℕ} {room : ℕ} {r : Report} → AllChecked kinds ws text work room r work' → take (line_count r.answer) r.lines ≡ take (line_count r.answer) (stored_report kinds ws text)
-called_lines {kinds} {ws} {text} {work} {work'} {room} {r} c = go (eqb (refusal_of r.answer) 0) refl
+pub called_lines : {kinds ws text work work' : List ℕ} {ys ls : List Line} {a : Answer} → Checked kinds ws text work ys a work' ls → take (line_count a) ls ≡ take (line_count a) (stored_report kinds ws text)
+called_lines {kinds} {ws} {text} {work} {work'} {ys} {ls} {a} c = go (eqb (refusal_of a) 0) refl
   where
-    go : (t : Bool) → eqb (refusal_of r.answer) 0 ≡ t → take (line_count r.answer) r.lines ≡ take (line_count r.answer) (stored_report kinds ws text)
+    go : (t : Bool) → eqb (refusal_of a) 0 ≡ t → take (line_count a) ls ≡ take (line_count a) (stored_report kinds ws text)
     go true t =
-        let z : refusal_of r.answer ≡ 0 = eqb-true (refusal_of r.answer) 0 t in
-        let s = is_reported kinds ws text (length work) (length (lent room)) r.answer c.checked.answered z in
-        let ls : List Line = stored_report kinds ws text in
-        let e : take (min room 1024) r.lines ≡ over ls (lent room) = c.checked.lines ∙ report_over kinds ws text (length work) (lent room) r.answer c.checked.answered z in
-        ap (λ (n : ℕ). take n r.lines) s.count
-        ∙ sym (take-take (length ls) (min room 1024) r.lines (omega (arith, s.fits, length-replicate (min room 1024) blank)))
-        ∙ ap (λ (xs : List Line). take (length ls) xs) e
-        ∙ over_holds ls (lent room) s.fits
-        ∙ sym (take-length ls)
-        ∙ ap (λ (n : ℕ). take n ls) (sym s.count)
+        let z : refusal_of a ≡ 0 = eqb-true (refusal_of a) 0 t in
+        let s = is_reported kinds ws text (length work) (length ys) a c.answered z in
+        let due : List Line = stored_report kinds ws text in
+        ap (λ (n : ℕ). take n ls) s.count
+        ∙ ap (take (length due)) (c.lines ∙ report_over kinds ws text (length work) ys a c.answered z)
+        ∙ over_holds due ys s.fits
+        ∙ sym (take-length due)
+        ∙ ap (λ (n : ℕ). take n due) (sym s.count)
     go false t =
-        let h : refusal_of r.answer ≡ 0 → ⊥ = eqb-false (refusal_of r.answer) 0 t in
-        ap (λ (n : ℕ). take n r.lines) (none_counted r.answer h) ∙ ap (λ (n : ℕ). take n (stored_report kinds ws text)) (sym (none_counted r.answer h))
+        let h : refusal_of a ≡ 0 → ⊥ = eqb-false (refusal_of a) 0 t in
+        ap (λ (n : ℕ). take n ls) (none_counted a h) ∙ ap (λ (n : ℕ). take n (stored_report kinds ws text)) (sym (none_counted a h))
 
 -- what is printed for them
-pub called_output : {kinds ws text work work' : List ℕ} {room : ℕ} {r : Report} → AllChecked kinds ws text work room r work' → output_lines r.answer r.lines text ≡ output_lines r.answer (stored_report kinds ws text) text
+pub called_output : {kinds ws text work work' : List ℕ} {ys ls : List Line} {a : Answer} → Checked kinds ws text work ys a work' ls → output_lines a ls text ≡ output_lines a (stored_report kinds ws text) text
 unfolding output_lines
-called_output {text = text} {r = r} c = ap (λ (ls : List Line). header r.answer ∷ map (line (names_of text)) ls) (called_lines c)
+called_output {text = text} {a = a} c = ap (λ (xs : List Line). header a ∷ map (line (names_of text)) xs) (called_lines c)
 
 -- their status
-pub called_status : {kinds ws text work work' : List ℕ} {room : ℕ} {r : Report} → AllChecked kinds ws text work room r work' → status_of r.answer r.lines ≡ status_of r.answer (stored_report kinds ws text)
+pub called_status : {kinds ws text work work' : List ℕ} {ys ls : List Line} {a : Answer} → Checked kinds ws text work ys a work' ls → status_of a ls ≡ status_of a (stored_report kinds ws text)
 unfolding status_of
-called_status {r = r} c = ap (λ (ls : List Line). if eqb (refusal_of r.answer) 0 then (if any_error ls then 1 else 0) else 2) (called_lines c)
+called_status {a = a} c = ap (λ (xs : List Line). if eqb (refusal_of a) 0 then (if any_error xs then Run.Errors else Run.Clean) else Run.Refused) (called_lines c)
 
 -- a refusal prints its header
 refused_output : (a : Answer) (ls : List Line) (text : List ℕ) → (refusal_of a ≡ 0 → ⊥) → output_lines a ls text ≡ header a ∷ []
@@ -140,19 +132,19 @@ unfolding printed joined
 refused_printed a ls text h = ap joined (refused_output a ls text h) ∙ append-nil (header a)
 
 -- its status
-refused_status : (a : Answer) (ls : List Line) → (refusal_of a ≡ 0 → ⊥) → status_of a ls ≡ 2
+refused_status : (a : Answer) (ls : List Line) → (refusal_of a ≡ 0 → ⊥) → status_of a ls ≡ Run.Refused
 unfolding status_of
 refused_status a ls h = simp (ne_eqb (refusal_of a) 0 h)
 
 -- it fits
-refused_whole : (a : Answer) (ls : List Line) (text : List ℕ) {o o' : List ℕ} {r : ℕ} → (refusal_of a ≡ 0 → ⊥) → 175161 ≤ length o → Filled (output_lines a ls text) o 0 r o' → Rendered (printed a ls text) o r o'
+refused_whole : (a : Answer) (ls : List Line) (text : List ℕ) {o o' : List ℕ} {r : ℕ} → (refusal_of a ≡ 0 → ⊥) → 175161 ≤ length o → Filled (output_lines a ls text) o 0 r o' → Rendered (printed a ls text) o (Some r) o'
 refused_whole a ls text {o} h b f = output_whole a ls text f (omega (arith, header_short a, ap length (refused_printed a ls text h)))
 
 -- the whole output fits
-called_whole : (kinds ws text : List ℕ) (work : ℕ) (a : Answer) {o o' : List ℕ} {r : ℕ} → a ≡ answer kinds ws text work 1024 → 175161 ≤ length o → Filled (output_lines a (stored_report kinds ws text) text) o 0 r o' → Rendered (printed a (stored_report kinds ws text) text) o r o'
+called_whole : (kinds ws text : List ℕ) (work : ℕ) (a : Answer) {o o' : List ℕ} {r : ℕ} → a ≡ answer kinds ws text work 1024 → 175161 ≤ length o → Filled (output_lines a (stored_report kinds ws text) text) o 0 r o' → Rendered (printed a (stored_report kinds ws text) text) o (Some r) o'
 called_whole kinds ws text work a {o} {o'} {r} e b f = go (eqb (refusal_of a) 0) refl
   where
-    go : (t : Bool) → eqb (refusal_of a) 0 ≡ t → Rendered (printed a (stored_report kinds ws text) text) o r o'
+    go : (t : Bool) → eqb (refusal_of a) 0 ≡ t → Rendered (printed a (stored_report kinds ws text) text) o (Some r) o'
     go true t =
         let s = is_reported kinds ws text work 1024 a e (eqb-true (refusal_of a) 0 t) in
         output_always a (stored_report kinds ws text) text (names_short text s.named) s.fits b f
@@ -168,49 +160,48 @@ not_none : {m : Model} → ◌≡◌ {A = Option Model} none (some m) → ⊥
 not_none e = let z : ◌≡◌ {A = ℕ} 0 1 = cc in omega arith
 
 -- the call on the parts of a file is the answer to it
-pub answered_parts : (file lent₀ ws work work' kinds text : List ℕ) (room n t : ℕ) (d : File) (r : Report) → Decoded file lent₀ d ws → d ≡ Parts n t → kinds ≡ kinds_of (parse file) → text ≡ text_of (parse file)
-    → AllChecked kinds (take n ws) text work room r work' → Answered file work room r work'
+pub answered_parts : (file lent₀ ws work work' kinds text : List ℕ) (s : Format.Sizes) (ys ls : List Line) (a : Answer) → Decoded file lent₀ (Some s) ws → kinds ≡ kinds_of (parse file) → text ≡ text_of (parse file)
+    → Checked kinds (take s.records ws) text work ys a work' ls → Answered file work ys a work' ls
 unfolding kinds_of text_of words_of
-answered_parts file lent₀ ws work work' kinds text room n t d r x y ks ts c =
-    let p = decoded_parts file lent₀ ws n t d x y in
+answered_parts file lent₀ ws work work' kinds text s ys ls a x ks ts c =
+    let p = (decoded_some file lent₀ ws s x).1 in
     record {
       called = λ m e.
           let k : kinds ≡ m.kinds = ks ∙ ap kinds_of e in
-          let w : take n ws ≡ m.words = ap words_of (sym p ∙ e) in
+          let w : take s.records ws ≡ m.words = ap words_of (sym p ∙ e) in
           let u : text ≡ m.text = ts ∙ ap text_of e in
           rw (sym k, sym w, sym u) c;
       wrong = λ e. absurd (not_none (sym e ∙ p));
     }
 
 -- a wrong file is refusal 1
-pub answered_wrong : (file lent₀ ws work : List ℕ) (room : ℕ) (d : File) (r : Report) → 4096 ≤ length lent₀ → Decoded file lent₀ d ws → d ≡ Wrong → r ≡ wrong_report → Answered file work room r work
-answered_wrong file lent₀ ws work room d r h x y e =
-    let p = decoded_wrong file (length lent₀) d h x.answer y in
-    record { called = λ m e. absurd (not_none (sym p ∙ e)); wrong = λ _. (e, refl) }
+pub answered_wrong : (file lent₀ ws work : List ℕ) (ys : List Line) → 4096 ≤ length lent₀ → Decoded file lent₀ None ws → Answered file work ys (Refused Sizes) work ys
+answered_wrong file lent₀ ws work ys h x =
+    let p = decoded_none file lent₀ ws h x in
+    record { called = λ m e. absurd (not_none (sym p ∙ e)); wrong = λ _. (refl, refl, refl) }
 
 -- the response to a file, where the program lends its work words and lines
-pub responded : (file o o' work work' text : List ℕ) (a : Report) (r : Response) → length work ≡ 4096 → Answered file work 1024 a work' → text ≡ text_of (parse file) → Filled (output_lines a.answer a.lines text) o 0 r.size o' → r.status ≡ status_of a.answer a.lines → Responded file o r o'
+pub responded : (file o o' work work' text : List ℕ) (ys ls : List Line) (a : Answer) (r : Response) → length work ≡ 4096 → length ys ≡ 1024 → Answered file work ys a work' ls → text ≡ text_of (parse file) → Filled (output_lines a ls text) o 0 r.size o' → r.status ≡ status_of a ls → Responded file o r o'
 unfolding lines_to status_to text_of output_of
-responded file o o' work work' text a r four c t f s = go (parse file) refl
+responded file o o' work work' text ys ls a r four d c t f s = go (parse file) refl
   where
     go : (p : Option Model) → parse file ≡ p → Responded file o r o'
     go none e =
-        let z : a.answer ≡ Refused Sizes = ap (λ (x : Report). x.answer) (c.wrong e).0 in
-        let h : refusal_of a.answer ≡ 0 → ⊥ = λ y. let q : ◌≡◌ {A = ℕ} 1 0 = ap refusal_of (sym z) ∙ y in omega arith in
+        let z : a ≡ Refused Sizes = (c.wrong e).0 in
+        let h : refusal_of a ≡ 0 → ⊥ = λ y. let q : ◌≡◌ {A = ℕ} 1 0 = ap refusal_of (sym z) ∙ y in omega arith in
         record {
-          filled = rw e (subst (λ bs. Filled bs o 0 r.size o') (refused_output a.answer a.lines text h ∙ ap (λ (x : Answer). header x ∷ []) z) f);
-          whole = λ b. rw e (subst (λ bs. Rendered bs o r.size o') (refused_printed a.answer a.lines text h ∙ ap header z) (refused_whole a.answer a.lines text h b f));
-          status = s ∙ refused_status a.answer a.lines h ∙ sym (ap status_to e);
+          filled = rw e (subst (λ bs. Filled bs o 0 r.size o') (refused_output a ls text h ∙ ap (λ (x : Answer). header x ∷ []) z) f);
+          whole = λ b. rw e (subst (λ bs. Rendered bs o (Some r.size) o') (refused_printed a ls text h ∙ ap header z) (refused_whole a ls text h b f));
+          status = s ∙ refused_status a ls h ∙ sym (ap status_to e);
         }
     go (some m) e =
         let k = c.called m e in
-        let ls : List Line = stored_report m.kinds m.words m.text in
+        let due : List Line = stored_report m.kinds m.words m.text in
         let n : text ≡ m.text = t ∙ ap text_of e in
-        let d : length (lent 1024) ≡ 1024 = length-replicate 1024 blank in
-        let w : a.answer ≡ answer m.kinds m.words m.text 4096 1024 = k.checked.answered ∙ (λ i. answer m.kinds m.words m.text (four i) (d i)) in
-        let g : Filled (output_lines a.answer ls m.text) o 0 r.size o' = subst (λ bs. Filled bs o 0 r.size o') (ap (λ (x : List ℕ). output_lines a.answer a.lines x) n ∙ called_output k) f in
+        let w : a ≡ answer m.kinds m.words m.text 4096 1024 = k.answered ∙ (λ i. answer m.kinds m.words m.text (four i) (d i)) in
+        let g : Filled (output_lines a due m.text) o 0 r.size o' = subst (λ bs. Filled bs o 0 r.size o') (ap (λ (x : List ℕ). output_lines a ls x) n ∙ called_output k) f in
         record {
-          filled = rw e (subst (λ x. Filled (output_lines x ls m.text) o 0 r.size o') w g);
-          whole = λ b. rw e (subst (λ x. Rendered (printed x ls m.text) o r.size o') w (called_whole m.kinds m.words m.text 4096 a.answer w b g));
-          status = s ∙ called_status k ∙ ap (λ (x : Answer). status_of x ls) w ∙ sym (ap status_to e);
+          filled = rw e (subst (λ x. Filled (output_lines x due m.text) o 0 r.size o') w g);
+          whole = λ b. rw e (subst (λ x. Rendered (printed x due m.text) o (Some r.size) o') w (called_whole m.kinds m.words m.text 4096 a w b g));
+          status = s ∙ called_status k ∙ ap (λ (x : Answer). status_of x due) w ∙ sym (ap status_to e);
         }

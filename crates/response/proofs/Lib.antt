@@ -1,4 +1,3 @@
 pub mod Errors
 pub mod Printing
-pub mod Files
 pub mod Answers

@@ -1,5 +1,5 @@
 // From the bytes of a file to what is printed for it: document 01, program `check`. `answer_to` takes a file apart and makes the call,
-// with what is lent to it; `render` gives the bytes of a report by value, the answer and its lines; `respond` is the two together with the
+// with what is lent to it; `render` gives the bytes of an answer and the lines that were stored; `respond` is the two together with the
 // 4,096 work words and 1,024 lines that the program lends. Any bytes are taken.
 #![tactic(auto)]
 
@@ -7,15 +7,13 @@ ghost use Rattle.std.specs.Prelude.{◌≤◌, ◌≡◌, map, length, take};
 ghost use Rattle.lustre.specs.Names.{names_of};
 ghost use Rattle.format.specs.Output.{line_count, line, output_lines};
 ghost use Rattle.format.specs.Buffers.{Filled};
-ghost use Rattle.response.specs.Response.{wrong_report, any_error, status_of, Answered, Responded};
+ghost use Rattle.response.specs.Response.{any_error, status_of, Answered, Responded};
 
-use checker::{Report, check_all};
+use checker::check_project;
 use format::output::{render_answer, render_line};
-use format::{File, decode, kinds_in, text_in};
-use lustre::{Answer, Line, Refusal, as_numbers};
-
-// Refusal 1's bound on records.
-const RECORDS: usize = 4096;
+use format::{RECORDS, decode, kinds_in, text_in};
+use lustre::codes::W0051;
+use lustre::{Answer, Line, Numbers, Refusal};
 
 // The work words that the program lends.
 const WORK: usize = 4096;
@@ -23,125 +21,90 @@ const WORK: usize = 4096;
 // The lines that it lends.
 const LINES: usize = 1024;
 
-// What is said of a file: the number of bytes printed, and 0 for a report without an error, 1 for one with an error, 2 for a refusal.
-#[derive(Drop)]
+// The status of a run, by the digit that the program gives: a report without an error, one with an error, and a refusal.
+#[derive(Clone, Copy, PartialEq, Eq)]
+pub enum Status {
+    Clean = 0,
+    Errors = 1,
+    Refused = 2,
+}
+
+// What is said of a file: the number of bytes printed, and the status.
+#[derive(Clone, Copy)]
 pub struct Response {
     pub size: usize,
-    pub status: u64,
+    pub status: Status,
 }
 
-// The report on a wrong file: refusal 1, and no line.
-fn wrong() -> Report
-    ensures { result ≡ wrong_report }
-{
-    let line = Line {
-        code: 0,
-        place: 0,
-        number: 0,
-        equation: 0,
-        step: 0,
-        name: 0,
-    };
-    Report {
-        answer: Answer::Refused(Refusal::Sizes),
-        lines: [line; LINES],
-    }
-}
-
-// The report on a file, with this work memory and room for so many lines lent; refusal 1 for a wrong file.
-pub fn answer_to(file: &[u8], work: &mut [u64], room: usize) -> Report
-    ensures { Answered file.now work.old room result work.new }
+// The answer to a file, with this work memory and these lines lent; refusal 1 for a wrong file, which changes nothing.
+pub fn answer_to(file: &[u8], work: &mut [u64], lines: &mut [Line]) -> Answer
+    ensures { Answered file.now work.old lines.old result work.new lines.new }
 {
     let mut words = [0u64; RECORDS];
     match decode(file, &mut words) {
-        File::Parts(n, _) => check_all(kinds_in(file), &words[..n], text_in(file), work, room),
-        File::Wrong => wrong(),
+        Some(sizes) => {
+            let words = &words[..sizes.records];
+            check_project(kinds_in(file), words, text_in(file), work, lines)
+        }
+        None => Answer::Refused(Refusal::Sizes),
     }
 }
 
-// The number of lines of a report, none of a refusal.
-fn line_count(a: Answer) -> u64
-    ensures { result ≡ line_count a }
+// The lines that are printed behind the header: a report's, and none behind a refusal.
+#[tactic(auto, using(crate::proofs::Printing::shown))]
+fn printed(a: Answer, lines: &[Line]) -> &[Line]
+    ensures { result.now ≡ take (line_count a) lines.now }
 {
-    let n = as_numbers(a);
-    if n.refusal == 0 {
-        return n.first;
+    match a {
+        Answer::Report(count, _) => &lines[..(count as usize).min(lines.len())],
+        Answer::Refused(_) | Answer::MoreLines(_) => &[],
     }
-    0
 }
 
-// Renders the first lines from a position on, as many as are counted and fit.
-fn render_lines(
-    out: &mut [u8],
-    start: usize,
-    text: &[u8],
-    lines: [Line; LINES],
-    count: u64,
-) -> usize
+// Renders lines from a position on, as many as fit.
+fn render_lines(out: &mut [u8], start: usize, text: &[u8], lines: &[Line]) -> usize
     requires { start ≤ length out.old }
-    ensures { Filled (map (line (names_of text.now)) (take count lines)) out.old start result out.new }
+    ensures { Filled (map (line (names_of text.now)) lines.now) out.old start result out.new }
 {
     let mut at = start;
-    let mut i = 0;
-    while i < LINES {
-        if i as u64 >= count {
-            return at;
+    for line in lines {
+        match render_line(&mut out[at..], text, *line) {
+            Some(size) => at += size,
+            None => return at,
         }
-        let k = render_line(&mut out[at..], text, lines[i]);
-        if k == 0 {
-            return at;
-        }
-        at += k;
-        i += 1;
     }
     at
 }
 
-// Renders a report, as many of the printed lines as fit, and answers the number of bytes.
-pub fn render(out: &mut [u8], text: &[u8], r: Report) -> usize
-    ensures { Filled (output_lines r.answer r.lines text.now) out.old 0 result out.new }
+// Renders an answer and its lines, as many of the printed lines as fit, and answers the number of bytes.
+pub fn render(out: &mut [u8], text: &[u8], a: Answer, lines: &[Line]) -> usize
+    ensures { Filled (output_lines a lines.now text.now) out.old 0 result out.new }
 {
-    let a = r.answer;
-    let start = render_answer(out, a);
-    if start == 0 {
-        return 0;
+    match render_answer(out, a) {
+        Some(start) => render_lines(out, start, text, printed(a, lines)),
+        None => 0,
     }
-    let lines = r.lines;
-    render_lines(out, start, text, lines, line_count(a))
 }
 
-// Says whether one of the first lines, as many as are counted, is an error.
-fn has_error(lines: [Line; LINES], count: u64) -> bool
-    ensures { result ≡ any_error (take count lines) }
+// Says whether one of the lines is an error.
+fn has_error(lines: &[Line]) -> bool
+    ensures { result ≡ any_error lines.now }
 {
-    let mut i = 0;
-    while i < LINES {
-        if i as u64 >= count {
-            return false;
-        }
-        let l = lines[i];
-        if l.code != lustre::codes::W0051 {
-            return true;
-        }
-        i += 1;
-    }
-    false
+    lines.iter().any(|line| line.code != W0051)
 }
 
-// The status of a report.
-fn status(r: Report) -> u64
-    ensures { result ≡ status_of r.answer r.lines }
+// The status of an answer and its lines.
+#[tactic(auto, unfolding(crate::specs::Response::status_of))]
+fn status_of(a: Answer, lines: &[Line]) -> Status
+    ensures { result ≡ status_of a lines.now }
 {
-    let a = r.answer;
-    let n = as_numbers(a);
-    if n.refusal != 0 {
-        return 2;
+    if Numbers::from(a).refusal != 0 {
+        Status::Refused
+    } else if has_error(printed(a, lines)) {
+        Status::Errors
+    } else {
+        Status::Clean
     }
-    let lines = r.lines;
-    if has_error(lines, n.first) {
-        return 1;
-    }
-    0
 }
 
 // Renders what is printed for a file.
@@ -150,8 +113,10 @@ pub fn respond(file: &[u8], out: &mut [u8]) -> Response
     ensures size_in_bounds { result.size ≤ length out.old }
 {
     let mut work = [0u64; WORK];
-    let r = answer_to(file, &mut work, LINES);
-    let size = render(out, text_in(file), r);
-    let status = status(r);
-    Response { size, status }
+    let mut lines = [Line::default(); LINES];
+    let a = answer_to(file, &mut work, &mut lines);
+    Response {
+        size: render(out, text_in(file), a, &lines),
+        status: status_of(a, &lines),
+    }
 }

@@ -1,13 +1,15 @@
 -- Iterators: what is kept of one array more, and the tests on a function's inputs and output.
 -- Assumes nothing.
-use Rattle.std.specs.Prelude.{if◌then◌else◌}
-use Prim.Native.Nat.{ℕ, ◌≤◌}
+use Prim.Native.Nat.{ℕ}
 use native.Mathlib.Omega.{arith}
-use mathlib.Core.Path.{◌≡◌, refl, sym, ap, ◌∙◌}
-use mathlib.Core.Bool.{Bool, true, false, ◌&&◌}
+use mathlib.Core.Path.{◌≡◌, refl, sym, ◌∙◌}
+use mathlib.Core.Bool.{true, false, ◌&&◌, and-true, and_assoc}
 use mathlib.Core.List.{List, [], ◌∷◌, ◌++◌}
 use lib.Dec.{eqb}
 use lib.ListN.{length, drop}
+use borrow.Author.Tests.{eq-eqb}
+use Rattle.std.specs.Prelude as code
+use Rattle.std.specs.Prelude.{Some, None, MatchOption, unwrap_or}
 use Rattle.lustre.specs.Types.{Ty}
 use Rattle.lustre.specs.Project.{Port, NodeKind, Function, Operator, Imported, is_function}
 use Rattle.lustre.specs.Grammar.{node_kind}
@@ -16,9 +18,9 @@ use Rattle.lustre.specs.Resolve.{Scope}
 use Rattle.lustre.specs.Infer.{agrees, one_output, two_inputs, all_long, same_lengths, first_length, inputs_agree, element_rule}
 use Rattle.types.specs.Value.{Naming, asTy}
 use Rattle.types.specs.declared.Typ.{Typ}
-use Rattle.rules.specs.Flags.{First, Flags, Beside}
+use Rattle.rules.specs.Flags.{First, Flags, Beside, type_fits}
+use Rattle.rules.specs.declared.iterators.Array.{Array}
 use Rattle.rules.specs.declared.iterators.Kept.{Kept}
-use Rattle.rules.proofs.Laws.{false_true}
 
 -- ---- what is kept
 
@@ -29,82 +31,58 @@ none_agree Γ [] = refl
 none_agree Γ (p ∷ ps) = refl
 
 -- the length of the first
-pub first_kept : (ρ : Naming) (ds : List (ℕ × Ty)) (s : Kept) → First ρ ds s → first_length ds ≡ s.len
-unfolding First first_length
-first_kept ρ [] s f = sym f.1
-first_kept ρ (d ∷ ds) s f = sym f.1
+pub first_kept : (ρ : Naming) (ds : List (ℕ × Ty)) (a : code.Option Array) → First ρ ds a → MatchOption a (0 ≡ first_length ds) (λ f. f.len ≡ first_length ds)
+unfolding first_length
+first_kept ρ [] a f = rw f refl
+first_kept ρ (d ∷ ds) None f = absurd f
+first_kept ρ (d ∷ ds) (Some x) f = f.0
 
-long_more : (n : ℕ) (ds : List (ℕ × Ty)) (x : ℕ × Ty) → all_long n (ds ++ (x ∷ [])) ≡ (if eqb x.0 n then all_long n ds else false)
+long_more : (n : ℕ) (ds : List (ℕ × Ty)) (x : ℕ × Ty) → all_long n (ds ++ (x ∷ [])) ≡ (all_long n ds && eqb x.0 n)
 unfolding all_long
-long_more n [] x = go (eqb x.0 n)
-  where
-    go : (b : Bool) → (b && true) ≡ (if b then true else false)
-    go true = refl
-    go false = refl
-long_more n (d ∷ ds) x = rw (long_more n ds x) (go (eqb d.0 n) (eqb x.0 n))
-  where
-    go : (a b : Bool) → (a && (if b then all_long n ds else false)) ≡ (if b then (a && all_long n ds) else false)
-    go true b = refl
-    go false true = refl
-    go false false = refl
+long_more n [] x = and-true (eqb x.0 n)
+long_more n (d ∷ ds) x = rw (long_more n ds x) (sym (and_assoc (eqb d.0 n) (all_long n ds) (eqb x.0 n)))
 
 module _ (Γ : Scope) (ρ : Naming) where
-  agree_more : (ps : List Port) (ds : List (ℕ × Ty)) (x : ℕ × Ty) (has : Bool) (w : Typ) → Beside ρ (drop (length ds) ps) has w
-      → inputs_agree Γ ps (ds ++ (x ∷ [])) ≡ (if has then (if agrees Γ (asTy ρ w) x.1 then inputs_agree Γ ps ds else false) else inputs_agree Γ ps ds)
-  unfolding inputs_agree Beside
-  agree_more [] [] x has w h = rw h
-  agree_more [] (d ∷ ds) x has w h = rw h
-  agree_more (p ∷ ps) [] x has w h = rw (h.0, h.1) (go (agrees Γ p.1 x.1))
-    where
-      go : (b : Bool) → (b && inputs_agree Γ ps []) ≡ (if b then true else false)
-      go true = none_agree Γ ps
-      go false = refl
-  agree_more (p ∷ ps) (d ∷ ds) x has w h = rw (agree_more ps ds x has w h) (go (agrees Γ p.1 d.1) has (agrees Γ (asTy ρ w) x.1) (inputs_agree Γ ps ds))
-    where
-      go : (a b c d : Bool) → (a && (if b then (if c then d else false) else d)) ≡ (if b then (if c then (a && d) else false) else (a && d))
-      go true b c d = refl
-      go false true true d = refl
-      go false true false d = refl
-      go false false c d = refl
+  agree_more : (ps : List Port) (ds : List (ℕ × Ty)) (x : ℕ × Ty) (w : code.Option Typ) → Beside ρ (drop (length ds) ps) w
+      → inputs_agree Γ ps (ds ++ (x ∷ [])) ≡ (inputs_agree Γ ps ds && type_fits Γ ρ w x.1)
+  unfolding inputs_agree
+  agree_more [] [] x w h = rw h
+  agree_more [] (d ∷ ds) x w h = rw h
+  agree_more (p ∷ ps) [] x None h = absurd h
+  agree_more (p ∷ ps) [] x (Some w) h = rw (h, none_agree Γ ps) (and-true (agrees Γ p.1 x.1))
+  agree_more (p ∷ ps) (d ∷ ds) x w h = rw (agree_more ps ds x w h) (sym (and_assoc (agrees Γ p.1 d.1) (inputs_agree Γ ps ds) (type_fits Γ ρ w x.1)))
 
-  -- one array more behind others
-  pub kept_more : (ds : List (ℕ × Ty)) (ps : List Port) {s r : Kept} (has : Bool) (w : Typ) (x : ℕ × Ty) → Flags Γ ρ ds ps s → Beside ρ (drop (length ds) ps) has w
-      → s.any ≡ true → r.any ≡ true → r.len ≡ s.len → r.first ≡ s.first
-      → r.even ≡ (if s.any then (if eqb x.0 s.len then s.even else false) else true)
-      → r.agree ≡ (if has then (if agrees Γ (asTy ρ w) x.1 then s.agree else false) else s.agree) → Flags Γ ρ (ds ++ (x ∷ [])) ps r
-  unfolding First same_lengths
-  kept_more [] ps has w x f b y ra rl rf re rg = false_true (sym f.first.0 ∙ y)
-  kept_more (d ∷ ds) ps has w x f b y ra rl rf re rg = record {
-    first = (ra, rl ∙ f.first.1, ap (asTy ρ) rf ∙ f.first.2);
-    even = re ∙ rw (y, f.first.1, f.even) (sym (long_more d.0 ds x));
-    agree = rg ∙ rw f.agree (sym (agree_more ps (d ∷ ds) x has w b));
-    low = rw rf f.low;
+  -- one array more
+  pub kept_more : (ds : List (ℕ × Ty)) (ps : List Port) {s r : Kept} (w : code.Option Typ) (x : Array) (n : ℕ × Ty) → Flags Γ ρ ds ps s → Beside ρ (drop (length ds) ps) w
+      → x.len ≡ n.0 → asTy ρ x.element ≡ n.1 → r.first ≡ Some (unwrap_or s.first x)
+      → r.even ≡ (s.even && eqb x.len (unwrap_or s.first x).len) → r.agree ≡ (s.agree && type_fits Γ ρ w (asTy ρ x.element)) → Flags Γ ρ (ds ++ (n ∷ [])) ps r
+  unfolding same_lengths all_long
+  kept_more [] ps {s} {r} w x n f b l t rf re ra = record {
+    first = rw (rf, f.first) (l, t);
+    even = re ∙ rw (f.first, f.even) (eq-eqb x.len x.len refl);
+    agree = ra ∙ rw (f.agree, t) (sym (agree_more ps [] n w b));
   }
-
-  -- the first array
-  pub kept_first : (ds : List (ℕ × Ty)) (ps : List Port) {s r : Kept} (has : Bool) (w : Typ) (x : ℕ × Ty) → Flags Γ ρ ds ps s → Beside ρ (drop (length ds) ps) has w
-      → s.any ≡ false → r.any ≡ true → r.len ≡ x.0 → asTy ρ r.first ≡ x.1 → r.first.levels ≤ 127
-      → r.even ≡ (if s.any then (if eqb x.0 s.len then s.even else false) else true)
-      → r.agree ≡ (if has then (if agrees Γ (asTy ρ w) x.1 then s.agree else false) else s.agree) → Flags Γ ρ (ds ++ (x ∷ [])) ps r
-  unfolding First same_lengths all_long
-  kept_first [] ps has w x f b y ra rl rf low re rg = record {
-    first = (ra, rl, rf);
-    even = re ∙ rw y;
-    agree = rg ∙ rw f.agree (sym (agree_more ps [] x has w b));
-    low = low;
-  }
-  kept_first (d ∷ ds) ps has w x f b y ra rl rf low re rg = false_true (sym y ∙ f.first.0)
+  kept_more (d ∷ ds) ps {s} {r} w x n f b l t rf re ra = go s.first f.first rf re
+    where
+      go : (a : code.Option Array) → First ρ (d ∷ ds) a → r.first ≡ Some (unwrap_or a x) → r.even ≡ (s.even && eqb x.len (unwrap_or a x).len) → Flags Γ ρ (d ∷ ds ++ (n ∷ [])) ps r
+      go None g rf re = absurd g
+      go (Some a) g rf re = record {
+        first = rw rf g;
+        even = re ∙ rw (f.even, l, g.0) (sym (long_more d.0 ds n));
+        agree = ra ∙ rw (f.agree, t) (sym (agree_more ps (d ∷ ds) n w b));
+      }
 
 -- the test of the first array's elements
-pub elements_none : (Γ : Scope) (at : ℕ) (want : Ty) (ρ : Naming) (ds : List (ℕ × Ty)) (s : Kept) → First ρ ds s → s.any ≡ false → element_rule Γ at want ds ≡ return tt
-unfolding First element_rule
-elements_none Γ at want ρ [] s f h = refl
-elements_none Γ at want ρ (d ∷ ds) s f h = false_true (sym h ∙ f.0)
+module _ (Γ : Scope) (at : ℕ) (want : Ty) (ρ : Naming) where
+  pub elements_none : (ds : List (ℕ × Ty)) → First ρ ds None → element_rule Γ at want ds ≡ return tt
+  unfolding element_rule
+  elements_none [] f = refl
+  elements_none (d ∷ ds) f = absurd f
 
-pub elements_some : (Γ : Scope) (at : ℕ) (want : Ty) (ρ : Naming) (ds : List (ℕ × Ty)) (s : Kept) → First ρ ds s → s.any ≡ true → element_rule Γ at want ds ≡ require (agrees Γ want (asTy ρ s.first)) (plain at 145)
-unfolding First element_rule
-elements_some Γ at want ρ [] s f h = false_true (sym f.0 ∙ h)
-elements_some Γ at want ρ (d ∷ ds) s f h = rw f.2
+  pub elements_some : (ds : List (ℕ × Ty)) (a : Array) → First ρ ds (Some a) → element_rule Γ at want ds ≡ require (agrees Γ want (asTy ρ a.element)) (plain at 145)
+  unfolding element_rule
+  elements_some [] a f = cc
+  elements_some (d ∷ ds) a f = rw f.1
 
 -- ---- the function
 

@@ -1,25 +1,31 @@
 -- How what the rules say follows one another, and what the entries of the scope say.
 -- Assumes nothing.
-use Prim.Native.Nat.{ℕ, suc, ◌+◌, ◌-◌, ◌≤◌}
+use Prim.Native.Nat.{ℕ, ◌+◌, ◌≤◌}
 use native.Mathlib.Omega.{arith}
 use mathlib.Core.Path.{◌≡◌, refl, sym, ap, subst, ◌∙◌}
 use mathlib.Core.Bool.{Bool, true, false}
 use mathlib.Core.List.{List}
 use mathlib.Core.Option.{Option, none, some}
+use Rattle.std.specs.Prelude as code
+use Rattle.std.specs.Prelude.{Some, None, IfSome}
+use Rattle.std.proofs.lemmas.Option.{IfSome_then}
 use Rattle.lustre.specs.Name.{Name}
 use Rattle.lustre.specs.Types.{Ty}
 use Rattle.lustre.specs.Project.{Port}
 use Rattle.lustre.specs.Line.{Note, Out, plain, named, return, fail, require, ◌>>=◌, ◌>>◌}
+use Rattle.lustre.specs.Infer.{res, agrees}
 use Rattle.lustre.specs.Answer.{no_value}
 use Rattle.standing.specs.Standing.{source}
 use Rattle.lines.specs.Lines.{Said}
+use Rattle.lines.specs.declared.Lines.{Lines}
 use Rattle.lines.specs.declared.Spot.{Spot}
 use Rattle.lines.proofs.Laws.{noted_plain, noted_named, said_return, said_pass, said_fail, said_refuse, said_stop, said_go, said_halt, said_then}
-use Rattle.types.specs.Value.{Naming, Injective, asTy, maybe, Known}
+use Rattle.types.specs.Value.{Naming, Injective, bottom, asTy, Known, Bottom}
+use Rattle.types.specs.Scope.{Compares, Resolves, KindOf, kind_of}
 use Rattle.types.specs.declared.Typ.{Typ}
-use Rattle.rules.specs.World.{World, Typed, Listed, Found, absent, present, TypeHere, PortsHere}
-use Rattle.rules.specs.Post.{Done, Gives, Failed}
-use Rattle.rules.specs.declared.Inferred.{Inferred}
+use Rattle.rules.specs.World.{World, Listed, Found, absent, present, PortsHere}
+use Rattle.rules.specs.Post.{Done, Concludes, Failed, TypeIs}
+use Rattle.rules.specs.declared.Typed as found_as
 
 pub false_true {ℓ} : {A : Type ℓ} → false ≡ true → A
 false_true h = absurd (let z : ◌≡◌ {A = ℕ} 0 1 = cc in omega arith)
@@ -28,77 +34,89 @@ false_true h = absurd (let z : ◌≡◌ {A = ℕ} 0 1 = cc in omega arith)
 pub apart : {ks ws sc : List ℕ} (W : World ks ws sc) → Injective W.text
 apart W m n e = sym (W.back m) ∙ ap W.number e ∙ W.back n
 
+-- ---- what the code asks of types, in a world
+
+module _ {ks ws sc : List ℕ} (W : World ks ws sc) where
+  -- the answers of `compatible`, `resolve` and `basic_kind`
+  pub agreed : (a b : Typ) {r : Bool} → Compares ks ws sc a b r → agrees W.Γ (asTy W.text a) (asTy W.text b) ≡ r
+  agreed a b d = sym (d W.text (apart W) W.Γ.alias W.alias)
+
+  pub resolved : {t u : Typ} → Resolves ks ws sc t u → res W.Γ (asTy W.text t) ≡ asTy W.text u
+  resolved d = sym (d.is W.text W.Γ.alias W.alias)
+
+  pub kind_resolved : {t : Typ} {k : code.Option ℕ} → KindOf ks ws sc t k → kind_of (res W.Γ (asTy W.text t)) ≡ k
+  kind_resolved d = sym (d.is W.text W.Γ.alias W.alias)
+
 -- ---- a type or none
 
-pub maybe_no : (ρ : Naming) {ok : Bool} (t : Typ) → ok ≡ false → maybe ρ ok t ≡ none
-unfolding maybe
-maybe_no ρ t h = rw h
-
-pub maybe_yes : (ρ : Naming) {ok : Bool} (t : Typ) → ok ≡ true → maybe ρ ok t ≡ some (asTy ρ t)
-unfolding maybe
-maybe_yes ρ t h = rw h
-
-module _ {num : Name → ℕ} {ρ : Naming} {q : Spot} {o : List ℕ} {n : ℕ} where
+module _ {num : Name → ℕ} {ρ : Naming} {q : Spot} {l : Lines} where
   -- no type
-  pub ended : {s : Out Ty} {end high : ℕ} {o' : List ℕ} {r : Inferred} → r.ok ≡ false → Said num q s none o n r.n o' → Done num ρ q s end high o n r o'
-  ended {r = r} h d = record {
-    said = rw (maybe_no ρ r.typ h) d;
-    low = λ g. false_true (sym h ∙ g);
-    known = λ g. false_true (sym h ∙ g);
-    next = λ g. false_true (sym h ∙ g);
-  }
+  pub ended : {s : Out Ty} {high : ℕ} {r : code.Option Typ} {l' : Lines} → r ≡ None → Said num q s none l l' → Concludes num ρ q s high l r l'
+  ended h d = rw h (record { said = d; low = tt; known = tt })
 
   -- a type, and nothing more
-  pub returned : {s : Out Ty} {end high next : ℕ} (t : Typ) → t.levels ≤ high → Known t → next ≡ end → s ≡ return (asTy ρ t)
-      → Done num ρ q s end high o n (record { ok = true; typ = t; next = next; n = n }) o
-  returned t l k e h = record { said = rw (h, maybe_yes ρ t refl) (said_return (asTy ρ t)); low = λ _. l; known = λ _. k; next = λ _. e }
+  pub returned : {s : Out Ty} {high : ℕ} (t : Typ) → t.levels ≤ high → Known t → s ≡ return (asTy ρ t) → Concludes num ρ q s high l (Some t) l
+  returned t n k h = record { said = rw h (said_return (asTy ρ t)); low = n; known = k }
 
-  pub gave : {s : Out Ty} {t : Ty} {end high : ℕ} {r : Inferred} → Gives ρ t high end n r → s ≡ return t → Done num ρ q s end high o n r o
-  gave {r = r} g h = record {
-    said = rw (h, maybe_yes ρ r.typ g.ok, g.type.is, g.same_count) (said_return _);
-    low = λ _. g.type.low;
-    known = λ _. g.type.known;
-    next = λ _. g.next;
-  }
+  -- the same of a type that is known by what it is
+  pub gave : {s : Out Ty} {u : Ty} {high : ℕ} {t : Typ} → TypeIs ρ u high t → s ≡ return u → Concludes num ρ q s high l (Some t) l
+  gave {t = t} g h = returned t g.low g.known (h ∙ ap return (sym g.is))
 
-  -- a line, and no type
-  pub failed : {end high c at : ℕ} {o' : List ℕ} {r : Inferred} → Failed q c at no_value o n r o' → Done num ρ q (fail (plain at c)) end high o n r o'
-  failed f = ended f.ok (said_fail (noted_plain f.put))
+  -- a type with no lengths and no name
+  pub returned_basic : {s : Out Ty} {high k n : ℕ} {t : Typ} → Bottom k n t → (k ≡ 33 → ⊥) → s ≡ return (bottom ρ k n) → Concludes num ρ q s high l (Some t) l
+  returned_basic b e h = returned _ (omega (arith, b.flat)) (λ z. absurd (e (sym b.base ∙ z))) (h ∙ ap return (sym (b.is ρ)))
 
-  pub failed_of : {end high c at w : ℕ} {o' : List ℕ} {r : Inferred} (x : Name) → num x ≡ w → Failed q c at w o n r o' → Done num ρ q (fail (named at c x)) end high o n r o'
-  failed_of x e f = ended f.ok (said_fail (noted_named x e f.put))
+  module _ {high c at : ℕ} {r : code.Option Typ} {l' : Lines} where
+    -- a line, and no type
+    pub failed : Failed q c at no_value l r l' → Concludes num ρ q (fail (plain at c)) high l r l'
+    failed f = ended f.none (said_fail (noted_plain f.put))
 
-  -- a test that does not pass
-  pub refused : {b : Bool} {end high c at : ℕ} {o' : List ℕ} {r : Inferred} (k : Out Ty) → b ≡ false → Failed q c at no_value o n r o' → Done num ρ q (require b (plain at c) >> k) end high o n r o'
-  refused k h f = ended f.ok (said_halt k refl (said_refuse h (noted_plain f.put)))
+    pub failed_of : {w : ℕ} (x : Name) → num x ≡ w → Failed q c at w l r l' → Concludes num ρ q (fail (named at c x)) high l r l'
+    failed_of x e f = ended f.none (said_fail (noted_named x e f.put))
 
-  module _ {end high : ℕ} {o' : List ℕ} {r : Inferred} where
+    -- a test that does not pass
+    pub refused : {b : Bool} (k : Out Ty) → b ≡ false → Failed q c at no_value l r l' → Concludes num ρ q (require b (plain at c) >> k) high l r l'
+    refused k h f = ended f.none (said_halt k refl (said_refuse h (noted_plain f.put)))
+
+  module _ {high : ℕ} {r : code.Option Typ} {l' : Lines} where
     -- something said before whose value is used
-    pub with : {A : Type 0} {s : Out A} (k : A → Out Ty) (a : A) {m : ℕ} {o₁ : List ℕ} → Said num q s (some a) o n m o₁ → Done num ρ q (k a) end high o₁ m r o' → Done num ρ q (s >>= k) end high o n r o'
-    with k a p f = record { said = said_go k a refl p f.said; low = f.low; known = f.known; next = f.next }
+    pub with : {A : Type 0} {s : Out A} (k : A → Out Ty) (a : A) {l₁ : Lines} → Said num q s (some a) l l₁ → Concludes num ρ q (k a) high l₁ r l' → Concludes num ρ q (s >>= k) high l r l'
+    with k a p f = record { said = said_go k a refl p f.said; low = f.low; known = f.known }
 
     -- something said before
-    pub after : {A : Type 0} {s : Out A} {k : Out Ty} {a : A} {m : ℕ} {o₁ : List ℕ} → Said num q s (some a) o n m o₁ → Done num ρ q k end high o₁ m r o' → Done num ρ q (s >> k) end high o n r o'
-    after {a = a} p f = record { said = said_then a refl p f.said; low = f.low; known = f.known; next = f.next }
+    pub after : {A : Type 0} {s : Out A} {k : Out Ty} {a : A} {l₁ : Lines} → Said num q s (some a) l l₁ → Concludes num ρ q k high l₁ r l' → Concludes num ρ q (s >> k) high l r l'
+    after {a = a} p f = record { said = said_then a refl p f.said; low = f.low; known = f.known }
 
     -- a test that passes
-    pub passed : {b : Bool} {k : Out Ty} (x : Note) → b ≡ true → Done num ρ q k end high o n r o' → Done num ρ q (require b x >> k) end high o n r o'
+    pub passed : {b : Bool} {k : Out Ty} (x : Note) → b ≡ true → Concludes num ρ q k high l r l' → Concludes num ρ q (require b x >> k) high l r l'
     passed x h f = after (said_pass x h) f
 
+    -- a weaker bound
+    pub weaker : {s : Out Ty} {least : ℕ} → least ≤ high → Concludes num ρ q s least l r l' → Concludes num ρ q s high l r l'
+    weaker e d = record { said = d.said; low = IfSome_then r d.low (λ t n. omega (arith, n)); known = d.known }
+
     -- a part with a type
-    pub go : {s : Out Ty} (k : Ty → Out Ty) {end₁ high₁ : ℕ} {o₁ : List ℕ} {p : Inferred}
-        → p.ok ≡ true → Done num ρ q s end₁ high₁ o n p o₁ → Done num ρ q (k (asTy ρ p.typ)) end high o₁ p.n r o' → Done num ρ q (s >>= k) end high o n r o'
-    go k {p = p} h d f = record { said = said_go k (asTy ρ p.typ) (maybe_yes ρ p.typ h) d.said f.said; low = f.low; known = f.known; next = f.next }
+    pub go : {s : Out Ty} (k : Ty → Out Ty) {end₁ high₁ : ℕ} {l₁ : Lines} {p : found_as.Typed}
+        → Done num ρ q s end₁ high₁ l (Some p) l₁ → Concludes num ρ q (k (asTy ρ p.typ)) high l₁ r l' → Concludes num ρ q (s >>= k) high l r l'
+    go k {p = p} d f = with k (asTy ρ p.typ) d.said f
 
-    -- a part without one
-    pub stop : {s : Out Ty} (k : Ty → Out Ty) {end₁ high₁ : ℕ} → r.ok ≡ false → Done num ρ q s end₁ high₁ o n r o' → Done num ρ q (s >>= k) end high o n r o'
-    stop k h d = ended h (said_stop k (maybe_no ρ r.typ h) d.said)
+  -- a part without one
+  pub stop : {s : Out Ty} (k : Ty → Out Ty) {end₁ high₁ high : ℕ} {l' : Lines} → Done num ρ q s end₁ high₁ l None l' → Concludes num ρ q (s >>= k) high l None l'
+  stop k d = ended refl (said_stop k refl d.said)
 
+  -- what a rule gives, with the place behind the expression
+  pub closed : {s : Out Ty} {end high next : ℕ} {t : Typ} {l' : Lines} → Concludes num ρ q s high l (Some t) l' → next ≡ end → Done num ρ q s end high l (Some (record { typ = t; next = next })) l'
+  closed d e = record { said = d.said; low = d.low; known = d.known; next = e }
+
+  pub closed_none : {s : Out Ty} {end high : ℕ} {l' : Lines} → Concludes num ρ q s high l None l' → Done num ρ q s end high l None l'
+  closed_none d = record { said = d.said; low = tt; known = tt; next = tt }
+
+  module _ {s : Out Ty} {end high : ℕ} {r : code.Option found_as.Typed} {l' : Lines} where
     -- a weaker bound, and another name for the end
-    pub lower : {s : Out Ty} {high₁ : ℕ} → high₁ ≤ high → Done num ρ q s end high₁ o n r o' → Done num ρ q s end high o n r o'
-    lower e d = record { said = d.said; low = λ g. omega (arith, d.low g); known = d.known; next = d.next }
+    pub lower : {high₁ : ℕ} → high₁ ≤ high → Done num ρ q s end high₁ l r l' → Done num ρ q s end high l r l'
+    lower e d = record { said = d.said; low = IfSome_then r d.low (λ t n. omega (arith, n)); known = d.known; next = d.next }
 
-    pub at_end : {s : Out Ty} {end₁ : ℕ} → end₁ ≡ end → Done num ρ q s end₁ high o n r o' → Done num ρ q s end high o n r o'
+    pub at_end : {end₁ : ℕ} → end₁ ≡ end → Done num ρ q s end₁ high l r l' → Done num ρ q s end high l r l'
     at_end e d = rw e at d
 
 -- ---- entries of the scope
@@ -108,32 +126,18 @@ pub found_not : {A : Type 0} {P : ℕ → A → Type 0} {e : ℕ} {o : Option A}
 found_not absent h = refl
 found_not (present p) h = absurd (omega arith)
 
--- the record that declares a name
-pub record Entry {A : Type 0} (P : ℕ → A → Type 0) (e : ℕ) (o : Option A) : Type 0 where
+-- the record p declares a name
+pub record Entry {A : Type 0} (P : ℕ → A → Type 0) (p : ℕ) (o : Option A) : Type 0 where
   pub a : A
   pub is : o ≡ some a
-  pub there : P (e - 1) a
-  pub back : e - 1 + 1 ≡ e
+  pub there : P p a
 
-pub found : {A : Type 0} {P : ℕ → A → Type 0} {e : ℕ} {o : Option A} → Found P e o → (e ≡ 0 → ⊥) → Entry P e o
-found absent h = absurd (h refl)
-found {P = P} (present {p} {a} x) h =
-    let z : p ≡ suc p - 1 = omega arith in
-    record { a = a; is = refl; there = subst (λ (j : ℕ). P j a) z x; back = omega arith }
+pub found : {A : Type 0} {P : ℕ → A → Type 0} {e p : ℕ} {o : Option A} → Found P e o → e ≡ p + 1 → Entry P p o
+found absent h = absurd (omega arith)
+found {P = P} {p = q} (present {p} {a} x) h =
+    let z : p ≡ q = omega arith in
+    record { a = a; is = refl; there = subst (λ (i : ℕ). P i a) z x }
 
--- what stands at an entry, behind the record that declares the name
-pub record Leads {A : Type 0} (Q : A → ℕ → Type 0) (e : ℕ) (o : Option A) : Type 0 where
-  pub a : A
-  pub is : o ≡ some a
-  pub there : Q a e
-
-pub leads : {A : Type 0} (Q : A → ℕ → Type 0) {e : ℕ} {o : Option A} → Found (λ p a. Q a (p + 1)) e o → (e ≡ 0 → ⊥) → Leads Q e o
-leads Q f h = let w = found f h in record { a = w.a; is = w.is; there = rw w.back at w.there }
-
--- the type and the ports that stand at an entry
-module _ {ks ws : List ℕ} {ρ : Naming} {e : ℕ} where
-  abbrev pub type_led : {o : Option Ty} → Leads (Typed (source ks ws ρ)) e o → TypeHere ks ws e
-  type_led w = record { text = ρ; t = w.a; typed = w.there }
-
-  abbrev pub ports_led : {o : Option (List Port)} → Leads (Listed (source ks ws ρ)) e o → PortsHere ks ws e
-  ports_led w = record { text = ρ; ps = w.a; listed = w.there }
+-- the ports that stand behind it
+abbrev pub ports_led : {ks ws : List ℕ} {ρ : Naming} {p : ℕ} {o : Option (List Port)} → Entry (λ j ps. Listed (source ks ws ρ) ps (j + 1)) p o → PortsHere ks ws (p + 1)
+ports_led {ρ = ρ} w = record { text = ρ; ps = w.a; listed = w.there }

@@ -4,9 +4,8 @@ pub mod Places
 pub mod BasicKinds
 pub mod Classes
 pub mod Rules
-pub mod Variables
 pub mod PortLaws
-pub mod Bits
 pub mod StructLaws
 pub mod IteratorLaws
 pub mod Onward
+pub mod Walks

@@ -13,7 +13,7 @@ use Rattle.lustre.specs.Types.{Ty, basic, Array, Named, Tuple, levels}
 use Rattle.standing.specs.Standing.{Source, word, TypeAt}
 use Rattle.standing.proofs.Inversions.{type_record, type_kind, array_type_here, named_here}
 use Rattle.types.specs.Value.{Naming, bottom}
-use Rattle.types.specs.Place.{arraysIn, standsIn, ty_of, ty_at, IsTypeAt, Read}
+use Rattle.types.specs.Place.{arraysIn, standsIn, ty_of, ty_at, IsTypeAt, Last, Read}
 use Rattle.types.specs.declared.Typ.{Typ}
 use Rattle.rules.specs.World.{Typed}
 use Rattle.rules.specs.Post.{TypeIs}
@@ -76,6 +76,10 @@ module _ {S : Source} {t : Ty} {at : ℕ} (g : Typed S t at) where
 
   pub type_is : ty_at S.text S.ks S.ws at ≡ t
   type_is = (type_at S.ks S.ws at (stands S t at g.stands) g.few).1
+
+  -- the record that ends it is the last of it
+  pub last_ends : {r : ℕ} → Last S.ks S.ws at r → r + 1 ≡ at + levels t
+  last_ends d = omega (arith, d.behind, (stands S t at g.stands).levels)
 
   module _ {r : Typ} {next : ℕ} (d : Read S.ks S.ws at r next) where
     -- and what it gives

@@ -1,7 +1,7 @@
 -- Lists of ports one by one: what the loops over them keep, and what stands in a list of known length.
 -- Assumes nothing.
 use Rattle.std.specs.Prelude.{if◌then◌else◌}
-use Prim.Native.Nat.{ℕ, ◌+◌, ◌<◌}
+use Prim.Native.Nat.{ℕ, ◌+◌, ◌-◌, ◌<◌}
 use native.Mathlib.Omega.{arith}
 use mathlib.Core.Path.{◌≡◌, refl, sym, ap, ◌∙◌}
 use mathlib.Core.Bool.{Bool, true, false}
@@ -9,56 +9,22 @@ use mathlib.Core.List.{List, [], ◌∷◌}
 use mathlib.Core.Option.{none, some}
 use lib.ListN.{length, get_or}
 use Rattle.lustre.specs.Name.{Name, ◌is◌, find}
-use Rattle.lustre.specs.Types.{Ty, basic, Array, Named, Tuple, levels, unit_type}
+use Rattle.lustre.specs.Types.{Ty, Tuple, levels, unit_type}
 use Rattle.lustre.specs.Project.{Port, Heading, NodeKind, Function, Operator, Imported, is_operator}
 use Rattle.lustre.specs.Grammar.{node_kind}
 use Rattle.lustre.specs.Line.{Note}
 use Rattle.lustre.specs.Infer.{outputs_type}
 use Rattle.input.specs.Depths.{ShallowPorts}
-use Rattle.standing.specs.Standing.{Source, source, word, RecAt, NameAt, TypeAt, EachAt, sizes_of, PortAt, port_size, ports_size}
-use Rattle.standing.proofs.Inversions.{type_record, array_type_here}
+use Rattle.standing.specs.Standing.{Source, source, word, RecAt, NameAt, EachAt, sizes_of, PortAt, port_size, ports_size}
 use Rattle.standing.proofs.Sizes.{no_items}
 use Rattle.lines.specs.Lines.{Noted}
+use Rattle.lines.specs.declared.Lines.{Lines}
 use Rattle.lines.specs.declared.Spot.{Spot}
 use Rattle.lines.proofs.Laws.{noted_none}
 use Rattle.types.specs.Value.{Naming, Injective}
 use Rattle.types.proofs.Truths.{not_so}
 use Rattle.demands.proofs.Orders.{is_test}
 use Rattle.rules.specs.World.{Typed, Listed, HeadingAt, TypeHere, PortsHere}
-
--- ---- the end of a type
-
--- within the type at `at`, the type u stands at i and ends with it
-pub record Inner (ks ws : List ℕ) (at i : ℕ) (g : TypeHere ks ws at) : Type 0 where
-  pub u : Ty
-  pub stands : TypeAt (source ks ws g.text) u i
-  pub ends : i + levels u ≡ at + levels g.t
-
-pub inner_start : {ks ws : List ℕ} {at : ℕ} (g : TypeHere ks ws at) → Inner ks ws at at g
-inner_start g = record { u = g.t; stands = g.typed.stands; ends = refl }
-
-one_level : (S : Source) (u : Ty) (i : ℕ) → TypeAt S u i → (get_or S.ks i 0 ≡ 32 → ⊥) → levels u ≡ 1
-unfolding TypeAt levels
-one_level S (basic b) i s h = refl
-one_level S (Array n u) i s h = absurd (h s.0.kind)
-one_level S (Named x) i s h = refl
-one_level S (Tuple n) i s h = absurd s
-
-levels_array : (u e : Ty) (n : ℕ) → u ≡ Array n e → levels u ≡ levels e + 1
-unfolding levels
-levels_array u e n q = rw q (omega arith)
-
-module _ {ks ws : List ℕ} {at i : ℕ} {g : TypeHere ks ws at} (l : Inner ks ws at i g) where
-  pub inner_in : i < length ks
-  inner_in = (type_record (source ks ws g.text) l.u i l.stands).in_kinds
-
-  pub inner_next : get_or ks i 0 ≡ 32 → Inner ks ws at (i + 1) g
-  inner_next h =
-      let a = array_type_here (source ks ws g.text) l.u i l.stands h in
-      record { u = a.element; stands = a.element_at; ends = omega (arith, l.ends, levels_array l.u a.element _ a.is) }
-
-  pub inner_last : (get_or ks i 0 ≡ 32 → ⊥) → i + 1 ≡ at + levels g.t
-  inner_last h = omega (arith, l.ends, one_level (source ks ws g.text) l.u i l.stands h)
 
 -- ---- ports one by one
 
@@ -91,16 +57,16 @@ first_port S (p ∷ ps) at n c h s f =
       fewer = omega arith;
     }
 
--- the ports that are left of a list, and where they end
-pub record Left (ks ws : List ℕ) (at next left : ℕ) (g : PortsHere ks ws at) : Type 0 where
+-- the ports that are left of a list behind those that were passed, and where they end
+pub record Left (ks ws : List ℕ) (at next passed : ℕ) (g : PortsHere ks ws at) : Type 0 where
   pub rest : List Port
   pub stand : EachAt (PortAt (source ks ws g.text)) port_size rest next
   pub few : ShallowPorts rest
-  pub many : length rest ≡ left
+  pub many : passed + length rest ≡ get_or ws at 0
   pub ends : next + sizes_of port_size rest ≡ at + ports_size g.ps
 
-abbrev pub left_start : {ks ws : List ℕ} {at : ℕ} (g : PortsHere ks ws at) → Left ks ws at (at + 1) (get_or ws at 0) g
-left_start g = record { rest = g.ps; stand = g.listed.stand.items; few = g.listed.few; many = sym g.listed.stand.many; ends = omega arith }
+abbrev pub left_start : {ks ws : List ℕ} {at : ℕ} (g : PortsHere ks ws at) → Left ks ws at (at + 1) 0 g
+left_start g = record { rest = g.ps; stand = g.listed.stand.items; few = g.listed.few; many = omega (arith, g.listed.stand.many); ends = omega arith }
 
 pub sizes_more : (ps : List Port) (p : Port) (others : List Port) → ps ≡ p ∷ others → sizes_of port_size ps ≡ 1 + levels p.1 + sizes_of port_size others
 unfolding sizes_of
@@ -110,29 +76,30 @@ sizes_none : sizes_of port_size [] ≡ 0
 unfolding sizes_of
 sizes_none = refl
 
-module _ {ks ws : List ℕ} {at next left : ℕ} {g : PortsHere ks ws at} (l : Left ks ws at next left g) where
-  module _ (h : left ≡ 0 → ⊥) where
-    abbrev pub left_first : FirstPort (source ks ws g.text) l.rest next left
-    left_first = first_port (source ks ws g.text) l.rest next left l.many h l.stand l.few
+module _ {ks ws : List ℕ} {at next passed : ℕ} {g : PortsHere ks ws at} (l : Left ks ws at next passed g) where
+  module _ (h : passed < get_or ws at 0) where
+    abbrev pub left_first : FirstPort (source ks ws g.text) l.rest next (get_or ws at 0 - passed)
+    left_first = first_port (source ks ws g.text) l.rest next (get_or ws at 0 - passed) (omega (arith, l.many)) (λ z. omega arith) l.stand l.few
 
     -- its type, for `type_end`
     abbrev pub left_type : TypeHere ks ws (next + 1)
     left_type = record { text = g.text; t = left_first.p.1; typed = left_first.typed }
 
-    abbrev pub left_next : {e i : ℕ} → e ≡ next + 1 + levels left_first.p.1 → i + 1 ≡ left → Left ks ws at e i g
-    left_next {e} {i} q c = record {
+    abbrev pub left_next : {e : ℕ} → e ≡ next + 1 + levels left_first.p.1 → Left ks ws at e (passed + 1) g
+    left_next {e} q = record {
       rest = left_first.others;
       stand = rw q left_first.stand;
       few = left_first.few;
-      many = omega (arith, left_first.fewer);
+      many = omega (arith, left_first.fewer, l.many);
       ends = omega (arith, l.ends, sizes_more l.rest left_first.p left_first.others left_first.are);
     }
 
-  pub left_none : left ≡ 0 → l.rest ≡ []
-  left_none z = no_items l.rest (l.many ∙ z)
+  module _ (z : passed ≡ get_or ws at 0) where
+    pub left_none : l.rest ≡ []
+    left_none = no_items l.rest (omega (arith, l.many))
 
-  pub left_end : left ≡ 0 → next ≡ at + ports_size g.ps
-  left_end z = omega (arith, l.ends, ap (sizes_of port_size) (left_none z), sizes_none)
+    pub left_end : next ≡ at + ports_size g.ps
+    left_end = omega (arith, l.ends, ap (sizes_of port_size) left_none, sizes_none)
 
 -- ---- the first port of a name
 
@@ -159,6 +126,12 @@ find_none x e = rw e
 
 -- ---- lists of known length
 
+list_of_one : {x : Port} {xs ys : List Port} → xs ≡ x ∷ ys → ys ≡ [] → xs ≡ x ∷ []
+list_of_one e h = rw h at e
+
+list_of_two : {x y : Port} {xs ys zs : List Port} → xs ≡ x ∷ ys → ys ≡ y ∷ zs → zs ≡ [] → xs ≡ x ∷ y ∷ []
+list_of_two e f h = rw (list_of_one f h) at e
+
 module _ {ks ws : List ℕ} {at : ℕ} (g : PortsHere ks ws at) where
   pub outputs_none : get_or ws at 0 ≡ 0 → outputs_type g.ps ≡ unit_type
   unfolding outputs_type
@@ -177,12 +150,13 @@ module _ {ks ws : List ℕ} {at : ℕ} (g : PortsHere ks ws at) where
   pub record Only : Type 0 where
     pub p : Port
     pub are : g.ps ≡ p ∷ []
-    pub typed : Typed (source ks ws g.text) p.1 (at + 1 + 1)
+    pub typed : Typed (source ks ws g.text) p.1 (at + 2)
 
   pub only : get_or ws at 0 ≡ 1 → Only
   only e =
       let f = first_port (source ks ws g.text) g.ps (at + 1) 1 (sym g.listed.stand.many ∙ e) (λ z. omega arith) g.listed.stand.items g.listed.few in
-      record { p = f.p; are = f.are ∙ ap (λ (l : List Port). f.p ∷ l) (no_items f.others (omega (arith, f.fewer))); typed = f.typed }
+      let z : at + 1 + 1 ≡ at + 2 = omega arith in
+      record { p = f.p; are = list_of_one f.are (no_items f.others (omega (arith, f.fewer))); typed = rw z at f.typed }
 
   pub outputs_one : (o : Only) → outputs_type g.ps ≡ o.p.1
   unfolding outputs_type
@@ -193,24 +167,29 @@ module _ {ks ws : List ℕ} {at : ℕ} (g : PortsHere ks ws at) where
     pub p : Port
     pub r : Port
     pub are : g.ps ≡ p ∷ r ∷ []
-    pub typed : Typed (source ks ws g.text) p.1 (at + 1 + 1)
-    pub head : RecAt (source ks ws g.text) (at + 1 + 1 + levels p.1) 7
-    pub later : Typed (source ks ws g.text) r.1 (at + 1 + 1 + levels p.1 + 1)
+    pub typed : Typed (source ks ws g.text) p.1 (at + 2)
+    pub head : RecAt (source ks ws g.text) (at + 2 + levels p.1) 7
+    pub later : Typed (source ks ws g.text) r.1 (at + 2 + levels p.1 + 1)
 
-  pub pair : get_or ws at 0 ≡ 2 → Pair
-  pair e =
-      let f = first_port (source ks ws g.text) g.ps (at + 1) 2 (sym g.listed.stand.many ∙ e) (λ z. omega arith) g.listed.stand.items g.listed.few in
-      let h = first_port (source ks ws g.text) f.others (at + 1 + 1 + levels f.p.1) 1 (omega (arith, f.fewer)) (λ z. omega arith) f.stand f.few in
+  two_ports : (f : FirstPort (source ks ws g.text) g.ps (at + 1) 2) → FirstPort (source ks ws g.text) f.others (at + 2 + levels f.p.1) 1 → Pair
+  two_ports f h =
+      let z : at + 1 + 1 ≡ at + 2 = omega arith in
       record {
         p = f.p;
         r = h.p;
-        are = f.are ∙ ap (λ (l : List Port). f.p ∷ l) (h.are ∙ ap (λ (l : List Port). h.p ∷ l) (no_items h.others (omega (arith, h.fewer))));
-        typed = f.typed;
+        are = list_of_two f.are h.are (no_items h.others (omega (arith, h.fewer)));
+        typed = rw z at f.typed;
         head = h.head;
         later = h.typed;
       }
 
-  pub pair_later : (d : Pair) {e : ℕ} → e ≡ at + 1 + 1 + levels d.p.1 → Typed (source ks ws g.text) d.r.1 (e + 1)
+  pub pair : get_or ws at 0 ≡ 2 → Pair
+  pair e =
+      let f = first_port (source ks ws g.text) g.ps (at + 1) 2 (sym g.listed.stand.many ∙ e) (λ z. omega arith) g.listed.stand.items g.listed.few in
+      let z : at + 1 + 1 ≡ at + 2 = omega arith in
+      two_ports f (first_port (source ks ws g.text) f.others (at + 2 + levels f.p.1) 1 (omega (arith, f.fewer)) (λ z. omega arith) (rw z at f.stand) f.few)
+
+  pub pair_later : (d : Pair) {e : ℕ} → e ≡ at + 2 + levels d.p.1 → Typed (source ks ws g.text) d.r.1 (e + 1)
   pair_later d q = rw q d.later
 
 -- a heading's outputs stand behind its inputs
@@ -230,10 +209,10 @@ module _ {ks ws : List ℕ} {ρ : Naming} {at : ℕ} {h : Heading} (w : HeadingA
 -- ---- kinds of nodes
 
 -- notes that a test asks for, and notes that it does not
-pub noted_when : {num : Name → ℕ} {q : Spot} (b : Bool) {ns : List Note} {o o' : List ℕ} {n m : ℕ} → b ≡ true → Noted num q ns o n m o' → Noted num q (if b then ns else []) o n m o'
+pub noted_when : {num : Name → ℕ} {q : Spot} (b : Bool) {ns : List Note} {l l' : Lines} → b ≡ true → Noted num q ns l l' → Noted num q (if b then ns else []) l l'
 noted_when b h d = rw h d
 
-pub noted_unless : {num : Name → ℕ} {q : Spot} (b : Bool) (ns : List Note) {o : List ℕ} {n : ℕ} → b ≡ false → Noted num q (if b then ns else []) o n n o
+pub noted_unless : {num : Name → ℕ} {q : Spot} (b : Bool) (ns : List Note) {l : Lines} → b ≡ false → Noted num q (if b then ns else []) l l
 noted_unless b ns h = rw h noted_none
 
 pub operator_is : {n : ℕ} (k : NodeKind) → node_kind k ≡ n → n ≡ 11 → is_operator k ≡ true

@@ -5,7 +5,8 @@ use native.Mathlib.Omega.{arith}
 use mathlib.Core.Path.{◌≡◌, refl, sym, ◌∙◌}
 use mathlib.Core.List.{List}
 use mathlib.Core.Option.{Option, none, some}
-use borrow.Author.Tests.{ne_eqb, le-leb, lt-leb}
+use borrow.Author.Tests.{le-leb, lt-leb}
+use Rattle.std.specs.Prelude.{Some, None}
 use Rattle.lustre.specs.Name.{Name, find}
 use Rattle.lustre.specs.Types.{Ty, basic, Array, Named, Tuple}
 use Rattle.lustre.specs.Expr.{UnaryOp, Not, Neg}
@@ -15,7 +16,7 @@ use Rattle.lustre.specs.Line.{Note, plain, named, return, fail}
 use Rattle.lustre.specs.Resolve.{Scope}
 use Rattle.lustre.specs.Infer.{if_found, literal_rule, var_rule, field_of, array_type, element_of}
 use Rattle.types.specs.Value.{Naming, asTy, Known, ArrayOf}
-use Rattle.types.specs.Number.{basic_of, KindIs}
+use Rattle.types.specs.Number.{KindIs}
 use Rattle.types.specs.declared.Typ.{Typ}
 use Rattle.types.proofs.Values.{bottom_cases, bottom_basic, bottom_name, view_flat, view_array}
 
@@ -39,16 +40,16 @@ flat_case ρ t P z b x n = rw (view_flat ρ t z) (bottom_cases P ρ t.base t.nam
 
 -- ---- literals
 
-module _ {t : Option Ty} {k : ℕ} (at : ℕ) (h : KindIs t k) where
+module _ {t : Option Ty} (at : ℕ) where
   -- the type of a kind
-  pub literal_typed : (k ≡ 0 → ⊥) → literal_rule at t ≡ return (basic k)
-  unfolding literal_rule if_found basic_of
-  literal_typed z = rw (← h.is, ne_eqb k 0 z)
+  pub literal_typed : {k : ℕ} → KindIs t (Some k) → literal_rule at t ≡ return (basic k)
+  unfolding literal_rule if_found
+  literal_typed h = rw (← h.is)
 
-  -- and 0 for none
-  pub literal_untyped : k ≡ 0 → literal_rule at t ≡ fail (plain at 95)
-  unfolding literal_rule if_found basic_of
-  literal_untyped z = rw (← h.is, z)
+  -- or none
+  pub literal_untyped : KindIs t None → literal_rule at t ≡ fail (plain at 95)
+  unfolding literal_rule if_found
+  literal_untyped h = rw (← h.is)
 
 -- ---- operators of one operand
 

@@ -7,3 +7,4 @@ pub mod Structs
 pub mod Flags
 pub mod Iterators
 pub mod Lists
+pub mod Walk

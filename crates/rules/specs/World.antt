@@ -13,6 +13,8 @@ use Rattle.input.specs.Depths.{ShallowType, ShallowPorts}
 use Rattle.standing.specs.Standing.{Source, source, RecAt, NameAt, TypeAt, PortsAt, ports_size}
 use Rattle.types.specs.Value.{Naming}
 use Rattle.types.specs.Scope.{Table, Targets}
+use Rattle.types.specs.declared.Context.{Context}
+use Rattle.lustre.specs.declared.Records.{Records}
 
 -- the type t stands at a place and has at most 68 levels
 pub record Typed (S : Source) (t : Ty) (at : ℕ) : Type 0 where
@@ -72,3 +74,18 @@ pub record PortsHere (ks ws : List ℕ) (at : ℕ) : Type 0 where
   pub text : Naming
   pub ps : List Port
   pub listed : Listed (source ks ws text) ps at
+
+-- the same of the records and the scope of a context
+abbrev pub WorldOf : Context → Type 0
+WorldOf x = World x.records.kinds.now x.records.words.now x.scope.now.entries
+
+-- the same of records
+abbrev pub TypeOf : Records → ℕ → Type 0
+TypeOf r at = TypeHere r.kinds.now r.words.now at
+
+abbrev pub PortsOf : Records → ℕ → Type 0
+PortsOf r at = PortsHere r.kinds.now r.words.now at
+
+-- the records with the texts of the names
+abbrev pub source_of : Records → Naming → Source
+source_of r ρ = source r.kinds.now r.words.now ρ

@@ -1,411 +1,259 @@
 // Iterators, `infer_iterator_type`, lib.rs 1233. An iterator types its arrays once, in order, and keeps of them what its later tests ask.
-ghost use Rattle.std.specs.Prelude.{◌≡◌, false, true, List, [], ◌∷◌, ◌++◌, ℕ, ◌+◌, ◌<◌, ◌≤◌, eqb, length, drop, if◌then◌else◌};
-ghost use Rattle.std.proofs.Math.Option.{Option};
+ghost use Rattle.std.specs.Prelude.{◌≡◌, List, [], ◌∷◌, ◌++◌, ℕ, ◌+◌, ◌<◌, length, drop};
+ghost use Rattle.std.proofs.Math.Option.{Option as MathOption};
 ghost use Rattle.lustre.specs.Name.{Name};
-ghost use Rattle.lustre.specs.Types.{Ty, Array};
+ghost use Rattle.lustre.specs.Types.{Ty, Array as ArrayTy};
 ghost use Rattle.lustre.specs.Expr.{Map};
 ghost use Rattle.lustre.specs.Project.{Port};
-ghost use Rattle.lustre.specs.Resolve.{Scope};
-ghost use Rattle.lustre.specs.Infer.{Typing, agrees, iterate_as};
-ghost use Rattle.lustre.specs.Answer.{no_value};
-ghost use Rattle.standing.specs.Standing.{source};
-ghost use Rattle.lines.specs.Lines.{Put};
+ghost use Rattle.lustre.specs.Resolve.{Scope as Meanings};
+ghost use Rattle.lustre.specs.Infer.{Typing, first_length, iterate_as};
 ghost use Rattle.types.specs.Value.{Naming, asTy, Known};
 ghost use Rattle.types.specs.Number.{asHint};
-ghost use Rattle.rules.specs.World.{World, Listed, PortsHere};
-ghost use Rattle.rules.specs.Post.{Done};
-ghost use Rattle.rules.specs.Flags.{Flags, Beside};
-ghost use Rattle.rules.specs.Iterators.{Iterated, InputsHere, NextInput, Taking, FoldStarts, element_end, fold_end};
+ghost use Rattle.rules.specs.World.{WorldOf, Listed, PortsOf, source_of};
+ghost use Rattle.rules.specs.Post.{Concludes};
+ghost use Rattle.rules.specs.Flags.{First, Flags, Beside, type_fits};
+ghost use Rattle.rules.specs.Iterators.{Iterated, InputsOf, NextInput, Taking, FoldStarts, element_end, fold_end};
 
 use crate::ports::ports_end;
-use crate::{Inferred, NO_NAME, fail_plain};
-use lines::{Spot, put_line};
-use types::aliases::{compatible, resolve};
-use types::records::read_type;
-use types::{Hint, Typ, array_of, bottom_of, element, outer_length};
+use crate::{declared, fail};
+use lines::{Lines, Spot};
+use lustre::{NONE, Records, codes, kinds};
+use types::records::{TypeRead, read_type};
+use types::{Context, Scope, Typ};
 
-// What an iterator keeps of its arrays: whether there is one, whether their lengths are equal and their elements are of the types of the
-// inputs beside them, and the length and the element type of the first.
+// The length and the element type of an array.
+#[derive(Clone, Copy)]
+pub struct Array {
+    pub len: u32,
+    pub element: Typ,
+}
+
+// What an iterator keeps of its arrays: the first, whether their lengths are equal, and whether their elements are of the types of the inputs
+// beside them.
 #[derive(Clone, Copy)]
 pub struct Kept {
-    pub any: bool,
+    pub first: Option<Array>,
     pub even: bool,
     pub agree: bool,
-    pub len: u32,
-    pub first: Typ,
 }
 
-// What an iterator's arrays leave: if all are arrays, what is kept of them and where the next record is; and the number of lines so far.
-#[derive(Drop)]
+// What an iterator's arrays leave: what is kept of them, and where the next record is.
+#[derive(Clone, Copy)]
 pub struct ArraysLeft {
-    pub ok: bool,
     pub kept: Kept,
     pub next: usize,
-    pub n: u64,
 }
 
-// The function that is iterated, if it is fit: the list of its inputs and the type of its output; and the number of lines so far.
-#[derive(Drop)]
+// The function that is iterated: the list of its inputs and the type of its output.
+#[derive(Clone, Copy)]
 pub struct Callee {
-    pub ok: bool,
     pub inputs: usize,
     pub result: Typ,
-    pub n: u64,
 }
 
-// The input beside the next array, if there is one, and the inputs behind it.
-#[derive(Drop)]
-pub struct Input {
-    pub has: bool,
-    pub typ: Typ,
-    pub next: usize,
-    pub left: u64,
-}
-
-// One array more, if it is one; and the number of lines so far.
-#[derive(Drop)]
-pub struct Taken {
-    pub ok: bool,
-    pub kept: Kept,
-    pub n: u64,
-}
-
-// The accumulator's and the element's type of a fold's function, if it is fit; and the number of lines so far.
-#[derive(Drop)]
+// The accumulator's and the element's type of a fold's function.
+#[derive(Clone, Copy)]
 pub struct FoldInputs {
-    pub ok: bool,
     pub acc: Typ,
     pub elem: Typ,
-    pub n: u64,
 }
 
 // The function that is iterated, lib.rs 1233 to 1280: E0140 to E0142.
-pub fn iterated(
-    kinds: &[u8],
-    words: &[u64],
-    scope: &[u64],
-    name: u64,
-    at: usize,
-    q: Spot,
-    out: &mut [u64],
-    n: u64,
-) -> Callee
-    requires { World kinds.now words.now scope.now × (name < 512) }
-    ensures { (W : World kinds.now words.now scope.now) → Iterated W at name q out.old n result out.new }
+pub fn iterated(ctx: &Context, name: u64, at: usize, q: Spot, lines: &mut Lines) -> Option<Callee>
+    requires { WorldOf ctx.now × (name < 512) }
+    ensures { (W : WorldOf ctx.now) → Iterated W at name q lines.old result lines.new }
 {
-    let i = name as usize;
-    let e = scope[i + 2048];
-    if e == 0 {
-        return no_callee(out, q, n, 140, at, name);
+    let Some(node) = declared(ctx.scope, Scope::NODES, name) else {
+        return fail(codes::E0140, at, name, q, lines);
+    };
+    if ctx.records.kinds[node] != kinds::FUNCTION {
+        return fail(codes::E0141, at, name, q, lines);
     }
-    let j = (e - 1) as usize;
-    if kinds[j] != 10 {
-        return no_callee(out, q, n, 141, at, name);
+    let inputs = node + 1;
+    let outputs = ports_end(&ctx.records, inputs);
+    if ctx.records.words[outputs] != 1 {
+        return fail(codes::E0142, at, name, q, lines);
     }
-    let inputs = j + 1;
-    let outputs = ports_end(kinds, words, inputs);
-    if words[outputs] != 1 {
-        return no_callee(out, q, n, 142, at, name);
-    }
-    let p = outputs + 1;
-    let r = read_type(kinds, words, p + 1);
-    let result = r.typ;
-    Callee {
-        ok: true,
-        inputs,
-        result,
-        n,
-    }
+    let result = read_type(&ctx.records, outputs + 2).typ;
+    Some(Callee { inputs, result })
 }
 
-// No function, and one line with its name.
-fn no_callee(out: &mut [u64], q: Spot, n: u64, code: u64, step: usize, name: u64) -> Callee
-    ensures { (result.ok ≡ false) × Put q code step name out.old n result.n out.new }
-{
-    let m = put_line(out, q, n, code, step as u64, name);
-    let result = bottom_of(20, 0);
-    Callee {
-        ok: false,
-        inputs: 0,
-        result,
-        n: m,
-    }
-}
-
-// The first of the inputs that are left, at a port.
-pub fn input_at(kinds: &[u8], words: &[u64], port: usize, left: u64) -> Input
-    requires { InputsHere kinds.now words.now port left }
-    ensures { (g : InputsHere kinds.now words.now port left) → NextInput kinds.now words.now port left g result }
+// The first of the inputs that are left, at a port: its type, and the next port.
+pub fn input_at(records: &Records, port: usize, left: u64) -> Option<TypeRead>
+    requires { InputsOf records.now port left }
+    ensures { (g : InputsOf records.now port left) → NextInput records.now port left g result }
 {
     if left == 0 {
-        let typ = bottom_of(20, 0);
-        return Input {
-            has: false,
-            typ,
-            next: port,
-            left,
-        };
+        return None;
     }
-    let r = read_type(kinds, words, port + 1);
-    let typ = r.typ;
-    let next = r.next;
-    let less = left - 1;
-    Input {
-        has: true,
-        typ,
-        next,
-        left: less,
-    }
+    Some(read_type(records, port + 1))
 }
 
-// No array yet.
-pub fn kept_none() -> Kept
-    ensures { (Γ : Scope) (ρ : Naming) (ps : List Port) → Flags Γ ρ [] ps result }
-{
-    let first = bottom_of(20, 0);
-    Kept {
-        any: false,
-        even: true,
-        agree: true,
-        len: 0,
-        first,
-    }
-}
-
-// Whether the lengths are equal, with one more, l.
-fn even_with(any: bool, even: bool, len: u32, l: u32) -> bool
-    ensures { result ≡ if◌then◌else◌ any (if◌then◌else◌ (eqb l len) even false) true }
-{
-    if any {
-        if l == len {
-            return even;
+impl Kept {
+    // No array yet.
+    #[tactic(auto, using(crate::proofs::IteratorLaws::none_agree), unfolding(lustre::specs::Infer::same_lengths))]
+    pub fn new() -> Kept
+        ensures { (Γ : Meanings) (ρ : Naming) (ps : List Port) → Flags Γ ρ [] ps result }
+    {
+        Kept {
+            first: None,
+            even: true,
+            agree: true,
         }
-        return false;
     }
-    true
+
+    // The length of the first array, 0 without one.
+    fn len(&self) -> u32
+        ensures { (ρ : Naming) (ds : List (ℕ × Ty)) → First ρ ds self.now.first → result ≡ first_length ds }
+    {
+        self.first.map_or(0, |a| a.len)
+    }
 }
 
-// Whether the elements agree with the inputs, with one more of type e.
-fn agree_with(
-    kinds: &[u8],
-    words: &[u64],
-    scope: &[u64],
-    agree: bool,
-    has: bool,
-    want: Typ,
-    e: Typ,
-) -> bool
-    requires { World kinds.now words.now scope.now × (want.levels ≤ 127) }
-    ensures { (W : World kinds.now words.now scope.now) → result ≡ if◌then◌else◌ has (if◌then◌else◌ (agrees W.Γ (asTy W.text want) (asTy W.text e)) agree false) agree }
+// Whether the type t is the one wanted, if one is.
+// Kept: matches here and below in the place of is_none_or, whose closure would need clauses of its own for the call in it.
+fn fits(ctx: &Context, want: Option<Typ>, t: &Typ) -> bool
+    requires { WorldOf ctx.now }
+    ensures { (W : WorldOf ctx.now) → result ≡ type_fits W.Γ W.text want (asTy W.text t.now) }
 {
-    if has {
-        if compatible(kinds, words, scope, want, e) {
-            return agree;
-        }
-        return false;
+    match want {
+        Some(w) => ctx.compatible(&w, t),
+        None => true,
     }
-    agree
 }
 
 // One array more, of the resolved array type t, beside an input or none.
-fn took(kinds: &[u8], words: &[u64], scope: &[u64], s: Kept, t: Typ, has: bool, want: Typ) -> Kept
-    requires { World kinds.now words.now scope.now × (0 < t.levels) × (t.levels ≤ 127) × (want.levels ≤ 127) }
-    ensures { (W : World kinds.now words.now scope.now) (ds : List (ℕ × Ty)) (ps : List Port) → Flags W.Γ W.text ds ps s → Beside W.text (drop (length ds) ps) has want → (x : ℕ × Ty) × (asTy W.text t ≡ Array x.0 x.1) × Flags W.Γ W.text (ds ++ (x ∷ [])) ps result }
+fn took(ctx: &Context, kept: Kept, t: &Typ, want: Option<Typ>) -> Kept
+    requires { WorldOf ctx.now × (0 < t.now.levels) }
+    ensures { (W : WorldOf ctx.now) (ds : List (ℕ × Ty)) (ps : List Port) → Flags W.Γ W.text ds ps kept → Beside W.text (drop (length ds) ps) want →
+        (x : ℕ × Ty) × (asTy W.text t.now ≡ ArrayTy x.0 x.1) × Flags W.Γ W.text (ds ++ (x ∷ [])) ps result }
 {
-    let l = outer_length(t);
-    let e = element(t);
-    let even = even_with(s.any, s.even, s.len, l);
-    let agree = agree_with(kinds, words, scope, s.agree, has, want, e);
-    if s.any {
-        let first = s.first;
-        let len = s.len;
-        return Kept {
-            any: true,
-            even,
-            agree,
-            len,
-            first,
-        };
-    }
+    let array = Array {
+        len: t.outer_length(),
+        element: t.element(),
+    };
+    let first = kept.first.unwrap_or(array);
     Kept {
-        any: true,
-        even,
-        agree,
-        len: l,
-        first: e,
+        first: Some(first),
+        even: kept.even && array.len == first.len,
+        agree: kept.agree && fits(ctx, want, &array.element),
     }
 }
 
 // One operand more, of type u, beside an input or none, lib.rs 1284: E0143.
 pub fn take_array(
-    kinds: &[u8],
-    words: &[u64],
-    scope: &[u64],
-    s: Kept,
-    u: Typ,
-    has: bool,
-    want: Typ,
+    ctx: &Context,
+    kept: Kept,
+    u: &Typ,
+    want: Option<Typ>,
     step: usize,
     q: Spot,
-    out: &mut [u64],
-    n: u64,
-) -> Taken
-    requires { World kinds.now words.now scope.now × (u.levels ≤ 127) × (want.levels ≤ 127) }
-    ensures { (W : World kinds.now words.now scope.now) (ds : List (ℕ × Ty)) (ps : List Port) → Flags W.Γ W.text ds ps s → Beside W.text (drop (length ds) ps) has want → Taking W step (asTy W.text u) ds ps q out.old n result out.new }
+    lines: &mut Lines,
+) -> Option<Kept>
+    requires { WorldOf ctx.now }
+    ensures { (W : WorldOf ctx.now) (ds : List (ℕ × Ty)) (ps : List Port) → Flags W.Γ W.text ds ps kept → Beside W.text (drop (length ds) ps) want →
+        Taking W step (asTy W.text u.now) ds ps q lines.old result lines.new }
 {
-    let t = resolve(kinds, words, scope, u);
+    let t = ctx.resolve(u);
     if t.levels == 0 {
-        let m = put_line(out, q, n, 143, step as u64, NO_NAME);
-        return Taken {
-            ok: false,
-            kept: s,
-            n: m,
-        };
+        return fail(codes::E0143, step, NONE, q, lines);
     }
-    let kept = took(kinds, words, scope, s, t, has, want);
-    Taken { ok: true, kept, n }
+    Some(took(ctx, kept, &t, want))
 }
 
 // A map over so many arrays of a function of so many inputs, lib.rs 1318: E0145.
 pub fn map_rule(
     inputs: u64,
     arrays: u64,
-    s: Kept,
+    kept: &Kept,
     res: Typ,
     at: usize,
-    next: usize,
     q: Spot,
-    out: &mut [u64],
-    n: u64,
-) -> Inferred
+    lines: &mut Lines,
+) -> Option<Typ>
     requires { (res.levels < 127) × Known res }
-    ensures { (num : Name → ℕ) (ρ : Naming) (Γ : Scope) (ds : List (ℕ × Ty)) (ps : List Port) (seed : Option Typing) → Flags Γ ρ ds ps s → length ps ≡ inputs → length ds ≡ arrays → Done num ρ q (iterate_as Γ Map at ps seed ds (asTy ρ res)) next (res.levels + 1) out.old n result out.new }
+    ensures { (num : Name → ℕ) (ρ : Naming) (Γ : Meanings) (ds : List (ℕ × Ty)) (ps : List Port) (seed : MathOption Typing) →
+        Flags Γ ρ ds ps kept.now → length ps ≡ inputs → length ds ≡ arrays →
+        Concludes num ρ q (iterate_as Γ Map at ps seed ds (asTy ρ res)) (res.levels + 1) lines.old result lines.new }
 {
-    if inputs == arrays {
-        if s.agree {
-            let typ = array_of(s.len, res);
-            return Inferred {
-                ok: true,
-                typ,
-                next,
-                n,
-            };
-        }
-        return fail_plain(out, q, n, 145, at);
+    if inputs != arrays || !kept.agree {
+        return fail(codes::E0145, at, NONE, q, lines);
     }
-    fail_plain(out, q, n, 145, at)
+    Some(res.array(kept.len()))
 }
 
 // The inputs of a fold's function, in the list at a place, and its accumulator beside its output, lib.rs 1352: E0145.
 pub fn fold_inputs(
-    kinds: &[u8],
-    words: &[u64],
-    scope: &[u64],
+    ctx: &Context,
     list: usize,
-    res: Typ,
+    res: &Typ,
     at: usize,
     q: Spot,
-    out: &mut [u64],
-    n: u64,
-) -> FoldInputs
-    requires { World kinds.now words.now scope.now × PortsHere kinds.now words.now list }
-    ensures { (W : World kinds.now words.now scope.now) (ps : List Port) → Listed (source kinds.now words.now W.text) ps list → FoldStarts W at ps (asTy W.text res) q out.old n result out.new }
+    lines: &mut Lines,
+) -> Option<FoldInputs>
+    requires { WorldOf ctx.now × PortsOf ctx.now.records list }
+    ensures { (W : WorldOf ctx.now) (ps : List Port) → Listed (source_of ctx.now.records W.text) ps list →
+        FoldStarts W at ps (asTy W.text res.now) q lines.old result lines.new }
 {
-    if words[list] != 2 {
-        return no_fold(out, q, n, at);
+    if ctx.records.words[list] != 2 {
+        return fail(codes::E0145, at, NONE, q, lines);
     }
-    let p = list + 1;
-    let a = read_type(kinds, words, p + 1);
+    let a = read_type(&ctx.records, list + 2);
     let acc = a.typ;
-    let e = read_type(kinds, words, a.next + 1);
-    let elem = e.typ;
-    if compatible(kinds, words, scope, acc, res) {
-        return FoldInputs {
-            ok: true,
-            acc,
-            elem,
-            n,
-        };
+    let elem = read_type(&ctx.records, a.next + 1).typ;
+    if !ctx.compatible(&acc, res) {
+        return fail(codes::E0145, at, NONE, q, lines);
     }
-    no_fold(out, q, n, at)
-}
-
-// No inputs of a fold, and one line.
-fn no_fold(out: &mut [u64], q: Spot, n: u64, step: usize) -> FoldInputs
-    ensures { (result.ok ≡ false) × Put q 145 step no_value out.old n result.n out.new }
-{
-    let m = put_line(out, q, n, 145, step as u64, NO_NAME);
-    let t = bottom_of(20, 0);
-    FoldInputs {
-        ok: false,
-        acc: t,
-        elem: t,
-        n: m,
-    }
+    Some(FoldInputs { acc, elem })
 }
 
 // A fold's first array beside the type of its element, lib.rs 1399: E0145.
 fn element_rule(
-    kinds: &[u8],
-    words: &[u64],
-    scope: &[u64],
-    elem: Typ,
-    s: Kept,
+    ctx: &Context,
+    elem: &Typ,
+    kept: &Kept,
     res: Typ,
     at: usize,
-    next: usize,
     q: Spot,
-    out: &mut [u64],
-    n: u64,
-) -> Inferred
-    requires { World kinds.now words.now scope.now × (elem.levels ≤ 127) × Known res }
-    ensures { (W : World kinds.now words.now scope.now) (ds : List (ℕ × Ty)) (ps : List Port) → Flags W.Γ W.text ds ps s → Done W.number W.text q (element_end W.Γ at (asTy W.text elem) ds (asTy W.text res)) next res.levels out.old n result out.new }
+    lines: &mut Lines,
+) -> Option<Typ>
+    requires { WorldOf ctx.now × Known res }
+    ensures { (W : WorldOf ctx.now) (ds : List (ℕ × Ty)) (ps : List Port) → Flags W.Γ W.text ds ps kept.now →
+        Concludes W.number W.text q (element_end W.Γ at (asTy W.text elem.now) ds (asTy W.text res)) res.levels lines.old result lines.new }
 {
-    if s.any {
-        let f = s.first;
-        if compatible(kinds, words, scope, elem, f) {
-            return Inferred {
-                ok: true,
-                typ: res,
-                next,
-                n,
-            };
-        }
-        return fail_plain(out, q, n, 145, at);
+    let agrees = match kept.first {
+        Some(a) => ctx.compatible(elem, &a.element),
+        None => true,
+    };
+    if !agrees {
+        return fail(codes::E0145, at, NONE, q, lines);
     }
-    Inferred {
-        ok: true,
-        typ: res,
-        next,
-        n,
-    }
+    Some(res)
 }
 
 // A fold whose seed has a type or none, lib.rs 1380 to 1410: E0145.
 pub fn fold_end(
-    kinds: &[u8],
-    words: &[u64],
-    scope: &[u64],
-    acc: Typ,
-    seed: Hint,
-    elem: Typ,
-    s: Kept,
+    ctx: &Context,
+    acc: &Typ,
+    seed: Option<Typ>,
+    elem: &Typ,
+    kept: &Kept,
     res: Typ,
     at: usize,
-    next: usize,
     q: Spot,
-    out: &mut [u64],
-    n: u64,
-) -> Inferred
-    requires { World kinds.now words.now scope.now × (acc.levels ≤ 127) × (elem.levels ≤ 127) × Known res }
-    ensures { (W : World kinds.now words.now scope.now) (ds : List (ℕ × Ty)) (ps : List Port) → Flags W.Γ W.text ds ps s → Done W.number W.text q (fold_end W.Γ at (asTy W.text acc) (asHint W.text seed) (asTy W.text elem) ds (asTy W.text res)) next res.levels out.old n result out.new }
+    lines: &mut Lines,
+) -> Option<Typ>
+    requires { WorldOf ctx.now × Known res }
+    ensures { (W : WorldOf ctx.now) (ds : List (ℕ × Ty)) (ps : List Port) → Flags W.Γ W.text ds ps kept.now →
+        Concludes W.number W.text q (fold_end W.Γ at (asTy W.text acc.now) (asHint W.text seed) (asTy W.text elem.now) ds (asTy W.text res))
+        res.levels lines.old result lines.new }
 {
-    if seed.given {
-        let t = seed.typ;
-        if compatible(kinds, words, scope, acc, t) {
-            return element_rule(kinds, words, scope, elem, s, res, at, next, q, out, n);
-        }
-        return fail_plain(out, q, n, 145, at);
+    let agrees = match seed {
+        Some(t) => ctx.compatible(acc, &t),
+        None => true,
+    };
+    if !agrees {
+        return fail(codes::E0145, at, NONE, q, lines);
     }
-    element_rule(kinds, words, scope, elem, s, res, at, next, q, out, n)
+    element_rule(ctx, elem, kept, res, at, q, lines)
 }

@@ -1,128 +1,107 @@
-// Lists of ports in the records: a node's inputs and outputs, and a record's fields. A list record, kind 3, has the number of ports; a
-// port is a record with its name and a type behind it. And what a call asks of its callee before its arguments.
-ghost use Rattle.std.specs.Prelude.{◌≡◌, ◌&&◌, [], ◌∷◌, ℕ, ◌+◌, ◌<◌, if◌then◌else◌};
+// Lists of ports in the records: a node's inputs and outputs, and a record's fields. A list record has the number of ports; a port is a
+// record with its name and a type behind it. And what a call asks of its callee before its arguments.
+ghost use Rattle.std.specs.Prelude.{◌≡◌, ◌&&◌, [], ◌∷◌, ℕ, ◌+◌, ◌^◌, ◌<◌, IfSome, if◌then◌else◌};
 ghost use Rattle.lustre.specs.Name.{Name};
 ghost use Rattle.lustre.specs.Types.{levels};
 ghost use Rattle.lustre.specs.Project.{NodeKind, is_operator};
 ghost use Rattle.lustre.specs.Grammar.{node_kind};
 ghost use Rattle.lustre.specs.Line.{named};
 ghost use Rattle.lustre.specs.Infer.{outputs_type};
-ghost use Rattle.standing.specs.Standing.{source, ports_size};
+ghost use Rattle.standing.specs.Standing.{ports_size};
 ghost use Rattle.lines.specs.Lines.{Noted};
 ghost use Rattle.types.specs.Value.{Injective};
-ghost use Rattle.rules.specs.World.{World, TypeHere, PortsHere};
+ghost use Rattle.rules.specs.World.{WorldOf, TypeOf, PortsOf, source_of};
 ghost use Rattle.rules.specs.Post.{TypeIs};
 ghost use Rattle.rules.specs.Ports.{PortFound, Called};
 
-use crate::{Checked, refuse};
-use lines::{Spot, put_line};
-use types::records::read_type;
-use types::{TUPLE, Typ, bottom_of};
+use crate::{declared, fail};
+use lines::{Lines, Spot};
+use lustre::{Records, codes, kinds};
+use types::records::{last_of, read_type};
+use types::{Context, Scope, TUPLE, Typ};
+
+// The kind of the type of no value, which no record has.
+const UNIT: u8 = 35;
 
 // The record behind the type at a place.
-pub fn type_end(kinds: &[u8], words: &[u64], at: usize) -> usize
-    requires { TypeHere kinds.now words.now at }
-    ensures { (g : TypeHere kinds.now words.now at) → result ≡ at + levels g.t }
+#[tactic(auto, using(crate::proofs::Places::type_there, crate::proofs::Places::last_ends))]
+pub fn type_end(records: &Records, at: usize) -> usize
+    requires { TypeOf records.now at }
+    ensures { (g : TypeOf records.now at) → result ≡ at + levels g.t }
 {
-    let mut i = at;
-    while kinds[i] == 32 {
-        i += 1;
-    }
-    i + 1
+    last_of(records, at) + 1
 }
 
 // The record behind the list of ports at a place.
-pub fn ports_end(kinds: &[u8], words: &[u64], at: usize) -> usize
-    requires { PortsHere kinds.now words.now at }
-    ensures { (g : PortsHere kinds.now words.now at) → result ≡ at + ports_size g.ps }
+// Kept: walks over ports here and in `structs` hold their place beside a for, since where a port ends is read from it.
+pub fn ports_end(records: &Records, at: usize) -> usize
+    requires { PortsOf records.now at }
+    ensures { (g : PortsOf records.now at) → result ≡ at + ports_size g.ps }
 {
-    let mut left = words[at];
     let mut next = at + 1;
-    while left > 0 {
-        next = type_end(kinds, words, next + 1);
-        left -= 1;
+    for _ in 0..records.words[at] {
+        next = type_end(records, next + 1);
     }
     next
 }
 
-// The first port of a name in the list at a place, or 0.
-pub fn find_port(kinds: &[u8], words: &[u64], at: usize, name: u64) -> usize
-    requires { PortsHere kinds.now words.now at }
-    ensures { (g : PortsHere kinds.now words.now at) → Injective g.text → PortFound (source kinds.now words.now g.text) g.ps (g.text name) result }
+// The first port of a name in the list at a place.
+pub fn find_port(records: &Records, at: usize, name: u64) -> Option<usize>
+    requires { PortsOf records.now at }
+    ensures port { (g : PortsOf records.now at) → Injective g.text → PortFound (source_of records.now g.text) g.ps (g.text name) result }
+    ensures below { IfSome result (λ p. p + 1 < 2 ^ 64) }
 {
-    let mut left = words[at];
     let mut next = at + 1;
-    while left > 0 {
-        if words[next] == name {
-            return next;
+    for _ in 0..records.words[at] {
+        if records.words[next] == name {
+            return Some(next);
         }
-        next = type_end(kinds, words, next + 1);
-        left -= 1;
+        next = type_end(records, next + 1);
     }
-    0
+    None
 }
 
 // The type of a call, by the list of its outputs at a place, lib.rs 1001.
-pub fn outputs_type(kinds: &[u8], words: &[u64], at: usize) -> Typ
-    requires { PortsHere kinds.now words.now at }
-    ensures { (g : PortsHere kinds.now words.now at) → TypeIs g.text (outputs_type g.ps) 67 result }
+pub fn outputs_type(records: &Records, at: usize) -> Typ
+    requires { PortsOf records.now at }
+    ensures { (g : PortsOf records.now at) → TypeIs g.text (outputs_type g.ps) 67 result }
 {
-    let c = words[at];
-    if c == 0 {
-        return bottom_of(35, 0);
+    match records.words[at] {
+        0 => Typ::bottom(UNIT, 0),
+        1 => read_type(records, at + 2).typ,
+        count => Typ::bottom(TUPLE, count),
     }
-    if c == 1 {
-        let p = at + 1;
-        let r = read_type(kinds, words, p + 1);
-        let t = r.typ;
-        return t;
-    }
-    bottom_of(TUPLE, c)
 }
 
 // A line where a function calls an operator, lib.rs 956: E0101.
-fn kind_rule(kind: u8, call: usize, name: u64, q: Spot, out: &mut [u64], n: u64) -> u64
-    ensures { (num : Name → ℕ) (x : Name) (k : NodeKind) → num x ≡ name → node_kind k ≡ kind → Noted num q (if◌then◌else◌ (q.function && is_operator k) (named call 101 x ∷ []) []) out.old n result out.new }
+fn kind_rule(kind: u8, call: usize, name: u64, q: Spot, lines: &mut Lines)
+    ensures { (num : Name → ℕ) (x : Name) (k : NodeKind) → num x ≡ name → node_kind k ≡ kind →
+        Noted num q (if◌then◌else◌ (q.function && is_operator k) (named call 101 x ∷ []) []) lines.old lines.new }
 {
-    if q.function {
-        if kind == 11 {
-            return put_line(out, q, n, 101, call as u64, name);
-        }
+    if q.function && kind == kinds::OPERATOR {
+        lines.put(q, codes::E0101, call as u64, name);
     }
-    n
 }
 
-// What a call with so many arguments asks of its callee, lib.rs 948 to 979: E0100 to E0102. If ok, the callee's first port.
+// What a call with so many arguments asks of its callee, lib.rs 948 to 979: E0100 to E0102. The callee's first port.
 pub fn called(
-    kinds: &[u8],
-    words: &[u64],
-    scope: &[u64],
+    ctx: &Context,
     name: u64,
     count: u64,
     at: usize,
     q: Spot,
-    out: &mut [u64],
-    n: u64,
-) -> Checked
-    requires { World kinds.now words.now scope.now × (name < 512) }
-    ensures { (W : World kinds.now words.now scope.now) → Called W at name count q out.old n result out.new }
+    lines: &mut Lines,
+) -> Option<usize>
+    requires { WorldOf ctx.now × (name < 512) }
+    ensures { (W : WorldOf ctx.now) → Called W at name count q lines.old result lines.new }
 {
-    let i = name as usize;
-    let e = scope[i + 2048];
-    if e == 0 {
-        return refuse(out, q, n, 100, at, name);
+    let Some(node) = declared(ctx.scope, Scope::NODES, name) else {
+        return fail(codes::E0100, at, name, q, lines);
+    };
+    kind_rule(ctx.records.kinds[node], at, name, q, lines);
+    let inputs = node + 1;
+    if count != ctx.records.words[inputs] {
+        return fail(codes::E0102, at, name, q, lines);
     }
-    let j = (e - 1) as usize;
-    let k = kinds[j];
-    let m = kind_rule(k, at, name, q, out, n);
-    let inputs = j + 1;
-    if count == words[inputs] {
-        let next = inputs + 1;
-        return Checked {
-            ok: true,
-            next,
-            n: m,
-        };
-    }
-    refuse(out, q, m, 102, at, name)
+    Some(inputs + 1)
 }

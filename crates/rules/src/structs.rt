@@ -1,133 +1,70 @@
-// Struct values, lib.rs 1134: the record that is meant, the names given, as bits by name number, and the fields that are not given.
-ghost use Rattle.std.specs.Prelude.{◌≡◌, List, [], ◌∷◌, ◌++◌, ℕ, ◌<◌, if◌then◌else◌};
+// Struct values, lib.rs 1134: the record that is meant, and the fields that are not given.
+ghost use Rattle.std.specs.Prelude.{◌≡◌, List, ℕ, ◌<◌};
 ghost use Rattle.lustre.specs.Name.{Name};
-ghost use Rattle.lustre.specs.Line.{named};
 ghost use Rattle.lustre.specs.Infer.{struct_name, missing as missing_of};
 ghost use Rattle.lines.specs.Lines.{Noted};
-ghost use Rattle.types.specs.Value.{Naming, Injective};
-ghost use Rattle.rules.specs.World.{World, PortsHere};
-ghost use Rattle.rules.specs.Marks.{bit, Marked};
+ghost use Rattle.rules.specs.World.{WorldOf, PortsOf};
+ghost use Rattle.rules.specs.Marks.{Marked};
 ghost use Rattle.rules.specs.Structs.{Declared};
 
 use crate::ports::type_end;
-use crate::{Checked, refuse};
-use lines::{Spot, put_line};
-use types::aliases::resolve;
-use types::bottom_of;
+use crate::{declared, fail};
+use lines::{Lines, Spot};
+use loops::NameSet;
+use lustre::{Records, codes, kinds};
+use types::{Context, Scope, Typ};
 
-// The names given, as bits by name number.
-#[derive(Drop)]
-pub struct Marks {
-    pub bits: [u64; 8],
-}
-
-// What a struct's field values leave: the names given, where the next record is, and the number of lines so far.
-#[derive(Drop)]
+// What a struct's field values leave: the names given, and where the next record is.
+#[derive(Clone, Copy)]
 pub struct ValuesLeft {
-    pub marks: [u64; 8],
+    pub marks: NameSet,
     pub next: usize,
-    pub n: u64,
 }
 
 // The name that a struct value's name resolves to, or the written one, lib.rs 1135.
-pub fn struct_name(kinds: &[u8], words: &[u64], scope: &[u64], name: u64) -> u64
-    requires { World kinds.now words.now scope.now × (name < 512) }
-    ensures { (result < 512) × ((W : World kinds.now words.now scope.now) → W.text result ≡ struct_name W.Γ (W.text name)) }
+pub fn struct_name(ctx: &Context, name: u64) -> u64
+    requires { WorldOf ctx.now × (name < 512) }
+    ensures known { result < 512 }
+    ensures name { (W : WorldOf ctx.now) → W.text result ≡ struct_name W.Γ (W.text name) }
 {
-    let t = bottom_of(33, name);
-    let s = resolve(kinds, words, scope, t);
-    if s.levels != 0 {
-        return name;
+    let s = ctx.resolve(&Typ::bottom(kinds::NAMED, name));
+    if s.levels == 0 && s.base == kinds::NAMED {
+        s.name
+    } else {
+        name
     }
-    if s.base != 33 {
-        return name;
+}
+
+// The list of the fields of a record, lib.rs 1139: E0125.
+pub fn record_of(ctx: &Context, name: u64, at: usize, q: Spot, lines: &mut Lines) -> Option<usize>
+    requires { WorldOf ctx.now × (name < 512) }
+    ensures { (W : WorldOf ctx.now) → Declared W at name q lines.old result lines.new }
+{
+    match declared(ctx.scope, Scope::RECORDS, name) {
+        Some(record) => Some(record + 1),
+        None => fail(codes::E0125, at, name, q, lines),
     }
-    s.name
-}
-
-// The record of a name, lib.rs 1139: E0125. If ok, the list of its fields.
-pub fn record_of(
-    kinds: &[u8],
-    words: &[u64],
-    scope: &[u64],
-    name: u64,
-    at: usize,
-    q: Spot,
-    out: &mut [u64],
-    n: u64,
-) -> Checked
-    requires { World kinds.now words.now scope.now × (name < 512) }
-    ensures { (W : World kinds.now words.now scope.now) → Declared W at name q out.old n result out.new }
-{
-    let i = name as usize;
-    let e = scope[i + 512];
-    if e == 0 {
-        return refuse(out, q, n, 125, at, name);
-    }
-    let next = e as usize;
-    Checked { ok: true, next, n }
-}
-
-// No name.
-pub fn no_marks() -> Marks
-    ensures { (ρ : Naming) → Marked ρ [] result.bits }
-{
-    Marks { bits: [0u64; 8] }
-}
-
-// The names given, and one more.
-pub fn mark(marks: Marks, name: u64) -> Marks
-    requires { name < 512 }
-    ensures { (ρ : Naming) → Injective ρ → (xs : List Name) → Marked ρ xs marks.bits → Marked ρ (xs ++ (ρ name ∷ [])) result.bits }
-{
-    let mut g = marks.bits;
-    let i = (name / 64) as usize;
-    g[i] = g[i] | (1u64 << (name % 64));
-    Marks { bits: g }
-}
-
-// Whether a name is given.
-fn is_marked(marks: [u64; 8], name: u64) -> bool
-    requires { name < 512 }
-    ensures { result ≡ bit marks name }
-{
-    let i = (name / 64) as usize;
-    let w = marks[i];
-    (w >> (name % 64)) % 2 == 1
-}
-
-// A line where a field is not given: E0128.
-fn missing_note(marks: [u64; 8], name: u64, step: usize, q: Spot, out: &mut [u64], n: u64) -> u64
-    requires { name < 512 }
-    ensures { (num : Name → ℕ) (x : Name) → num x ≡ name → Noted num q (if◌then◌else◌ (bit marks name) [] (named step 128 x ∷ [])) out.old n result out.new }
-{
-    if is_marked(marks, name) {
-        return n;
-    }
-    put_line(out, q, n, 128, step as u64, name)
 }
 
 // Lines for the fields of the list at a place that are not given, lib.rs 1173: E0128.
 pub fn missing(
-    kinds: &[u8],
-    words: &[u64],
+    records: &Records,
     list: usize,
-    marks: [u64; 8],
+    marks: &NameSet,
     step: usize,
     q: Spot,
-    out: &mut [u64],
-    n: u64,
-) -> u64
-    requires { PortsHere kinds.now words.now list }
-    ensures { (g : PortsHere kinds.now words.now list) (num : Name → ℕ) → ((i : ℕ) → num (g.text i) ≡ i) → (xs : List Name) → Marked g.text xs marks → Noted num q (missing_of step g.ps xs) out.old n result out.new }
+    lines: &mut Lines,
+)
+    requires { PortsOf records.now list }
+    ensures { (g : PortsOf records.now list) (num : Name → ℕ) → ((i : ℕ) → num (g.text i) ≡ i) → (xs : List Name) → Marked g.text xs marks.now.bits →
+        Noted num q (missing_of step g.ps xs) lines.old lines.new }
 {
-    let mut left = words[list];
     let mut next = list + 1;
-    let mut m = n;
-    while left > 0 {
-        m = missing_note(marks, words[next], step, q, out, m);
-        next = type_end(kinds, words, next + 1);
-        left -= 1;
+    for _ in 0..records.words[list] {
+        let name = records.words[next];
+        if !marks.contains(name) {
+            lines.put(q, codes::E0128, step as u64, name);
+        }
+        next = type_end(records, next + 1);
     }
-    m
 }

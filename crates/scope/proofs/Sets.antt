@@ -1,36 +1,23 @@
 -- Sets of names step by step.
 -- Assumes nothing.
-use Prim.Native.Nat.{ℕ, ◌+◌, ◌*◌, ◌/◌, ◌%◌, ◌<◌}
-use native.Mathlib.Omega.{arith}
+use Prim.Native.Nat.{ℕ, ◌<◌}
 use mathlib.Core.Path.{◌≡◌, refl, sym, ◌∙◌, ap}
 use mathlib.Core.Logic.{⊎_elim}
-use mathlib.Core.Bool.{Bool, true, false, ◌||◌}
+use mathlib.Core.Bool.{Bool, true, false, ◌||◌, or-true, or-false}
 use mathlib.Core.List.{List, [], ◌∷◌, ◌++◌}
-use lib.ListN.{replicate, get_or-replicate}
 use borrow.Author.Tests.{eq-eqb, ne_eqb}
 use Rattle.lustre.specs.Name.{Name, ◌is◌, ◌among◌, mem}
 use Rattle.demands.proofs.Sets.{split, mustnt, mem_eq, mem_ne, mem_self}
 use Rattle.demands.proofs.Orders.{is_test}
 use Rattle.loops.specs.Rows.{has, Connected}
-use Rattle.loops.proofs.Bits.{bit_zero}
 use Rattle.loops.proofs.Rows.{same_or}
 use Rattle.types.specs.Value.{Naming, Injective}
 use Rattle.scope.specs.Sets.{Holds}
 
 -- no name
-pub holds_none : (text : Naming) → Holds text [] (replicate 8 0)
-unfolding has mem
-holds_none text = record { each = λ n b. rw (get_or-replicate {A = ℕ} 8 (8 * 0 + n / 64) 0 0 (omega arith)) (bit_zero (n % 64)) }
-
--- or with true
-or_true : (b : Bool) → (b || true) ≡ true
-or_true true = refl
-or_true false = refl
-
--- or with false
-or_false : (b : Bool) → (b || false) ≡ b
-or_false true = refl
-or_false false = refl
+pub holds_none : (text : Naming) {set : List ℕ} → ((n : ℕ) → has set 0 n ≡ false) → Holds text [] set
+unfolding mem
+holds_none text h = record { each = λ n b. h n }
 
 -- one name more
 pub holds_add : {text : Naming} {xs : List Name} {set set' : List ℕ} {w : ℕ} → Injective text → w < 512 → Connected set 0 w set' → Holds text xs set → Holds text (text w ∷ xs) set'
@@ -38,8 +25,8 @@ holds_add {text} {xs} {set} {set'} {w} inj b c h = record {
   each = λ n b.
       c.edges 0 n b
       ∙ ⊎_elim
-      (λ (e : n ≡ w). rw (eq-eqb n w e) (or_true (has set 0 n)) ∙ sym (ap (λ (m : ℕ). text m among (text w ∷ xs)) e ∙ mem_self ◌is◌ is_test (text w) xs))
-      (λ (e : n ≡ w → ⊥). rw (ne_eqb n w e) (or_false (has set 0 n)) ∙ h.each n b ∙ sym (mem_ne ◌is◌ (text n) (text w) xs (mustnt (text n is text w) (λ q. e (inj n w (is_test.same (text n) (text w) q))))))
+      (λ (e : n ≡ w). rw (eq-eqb n w e) (or-true (has set 0 n)) ∙ sym (ap (λ (m : ℕ). text m among (text w ∷ xs)) e ∙ mem_self ◌is◌ is_test (text w) xs))
+      (λ (e : n ≡ w → ⊥). rw (ne_eqb n w e) (or-false (has set 0 n)) ∙ h.each n b ∙ sym (mem_ne ◌is◌ (text n) (text w) xs (mustnt (text n is text w) (λ q. e (inj n w (is_test.same (text n) (text w) q))))))
       (same_or n w);
 }
 

@@ -9,16 +9,17 @@ use Rattle.lustre.specs.Line as Report
 use Rattle.lustre.specs.Answer.{or_none, place_number}
 use Rattle.lines.specs.Lines.{line_at, line_of, Noted}
 use Rattle.lines.specs.declared.Spot.{Spot}
+use Rattle.lines.specs.declared.Lines.{Lines}
 use Rattle.lines.proofs.Laws.{wrote_none, wrote_append}
 use Rattle.scope.specs.Writes.{line_by, Reports}
 
-module _ (num : Name → ℕ) {first : ℕ} where
+module _ (num : Name → ℕ) where
   -- no line
-  pub reports_none : {o : List ℕ} {n : ℕ} → Reports num first [] o n n o
+  pub reports_none : {l : Lines} → Reports num [] l l
   reports_none = wrote_none
 
   -- lines after lines
-  pub reports_append : (ls ms : List Report.Line) {o o₁ o₂ : List ℕ} {n m k : ℕ} → Reports num first ls o n m o₁ → Reports num first ms o₁ m k o₂ → Reports num first (ls ++ ms) o n k o₂
+  pub reports_append : (ls ms : List Report.Line) {l l₁ l₂ : Lines} → Reports num ls l l₁ → Reports num ms l₁ l₂ → Reports num (ls ++ ms) l l₂
   reports_append ls ms f g = rw (map-append (line_by num) ls ms) (wrote_append f g)
 
 -- a note placed
@@ -33,6 +34,6 @@ module _ (num : Name → ℕ) (q : Spot) (p : Report.Place) (i : ℕ) (e : Optio
   lines_placed (m ∷ ns) = ap₂ ◌∷◌ (rw (at, number, equation)) (lines_placed ns)
 
 -- notes at a spot are lines of the report
-pub reports_noted : {num : Name → ℕ} {q : Spot} (p : Report.Place) {i : ℕ} (e : Option ℕ) (ns : List Report.Note) {o o' : List ℕ} {n m : ℕ}
-    → Noted num q ns o n m o' → q.place ≡ place_number p → q.number ≡ i → q.equation ≡ or_none e → Reports num q.first (map (placed p i e) ns) o n m o'
+pub reports_noted : {num : Name → ℕ} {q : Spot} (p : Report.Place) {i : ℕ} (e : Option ℕ) (ns : List Report.Note) {l l' : Lines}
+    → Noted num q ns l l' → q.place ≡ place_number p → q.number ≡ i → q.equation ≡ or_none e → Reports num (map (placed p i e) ns) l l'
 reports_noted {num} {q} p {i} e ns d at number equation = rw (lines_placed num q p i e at number equation ns) at d.wrote

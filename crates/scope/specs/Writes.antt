@@ -1,4 +1,4 @@
--- Lines of the report in the buffer, where a function numbers the names.
+-- Lines of the report, where a function numbers the names.
 -- Assumes nothing: these are definitions.
 use Rattle.std.specs.Prelude.{ℕ, List, map}
 use Rattle.std.proofs.Math.Option
@@ -7,6 +7,7 @@ use Rattle.lustre.specs.Line as Report
 use Rattle.lustre.specs.Answer.{or_none, place_number}
 use Rattle.lustre.specs.declared.Line.{Line}
 use Rattle.lines.specs.Lines.{Wrote}
+use Rattle.lines.specs.declared.Lines.{Lines}
 
 -- a line of the report as it is stored
 unfoldable pub line_by : (Name → ℕ) → Report.Line → Line
@@ -19,6 +20,6 @@ line_by num l = record {
   name = or_none (Option.map num l.remark.note.name);
 }
 
--- the count m and the buffer o' are n and o with lines of the report
-abbrev pub Reports : (Name → ℕ) → ℕ → List Report.Line → List ℕ → ℕ → ℕ → List ℕ → Type 0
-Reports num first ls o n m o' = Wrote first (map (line_by num) ls) o n m o'
+-- l' is l with lines of the report
+abbrev pub Reports : (Name → ℕ) → List Report.Line → Lines → Lines → Type 0
+Reports num ls l l' = Wrote (map (line_by num) ls) l l'

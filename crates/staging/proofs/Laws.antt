@@ -1,11 +1,11 @@
 -- The laws of batches: answers without lines, accepted input, the first batch and the next.
 -- Assumes nothing.
-use Prim.Native.Nat.{ℕ, ◌+◌, ◌-◌, ◌/◌, ◌^◌, ◌≤◌, ◌<◌, min}
+use Prim.Native.Nat.{ℕ, ◌+◌, ◌-◌, ◌^◌, ◌≤◌, ◌<◌, min}
 use native.Mathlib.Omega.{arith}
 use native.Mathlib.Decide.{dec_lt}
 use mathlib.Core.Path.{◌≡◌, refl, sym, ap, subst, ◌∙◌}
 use mathlib.Core.Bool.{Bool, true, false}
-use mathlib.Core.List.{List, [], map}
+use mathlib.Core.List.{List, []}
 use lib.ListN.{length, get_or, take, replicate, length-take, length-map, length-replicate}
 use lib.Seq.{get_or-take, take_all}
 use borrow.Author.Tests.{le-leb, lt-leb}
@@ -16,15 +16,15 @@ use Rattle.lustre.specs.declared.Line.{Line}
 use Rattle.lustre.specs.declared.Answer.{Answer}
 use Rattle.lustre.specs.declared.Answer.TheVariants.{Report, Refused, MoreLines}
 use Rattle.lustre.specs.declared.Refusal.{Refusal}
-use Rattle.input.specs.Input.{judged}
-use Rattle.input.specs.declared.Input.{Input}
-use Rattle.input.specs.declared.Input.TheVariants as Answers
+use Rattle.input.specs.Input.{Checked, judged}
+use Rattle.std.proofs.Common.{None, Some, Ok, Err}
 use Rattle.lustre.proofs.Blank.{blank_stored}
 use Rattle.input.proofs.Accepts.{accepts, blank as blank_file}
-use Rattle.lines.specs.Lines.{line_in, room, puts}
+use Rattle.lines.specs.Lines.{line_in, room, puts, Wrote}
+use Rattle.lines.specs.declared.Lines.{Lines}
 use Rattle.lines.proofs.Laws.{puts_reads, length_puts}
 use Rattle.scope.specs.Model.{Model}
-use Rattle.scope.specs.Writes.{line_by, Reports}
+use Rattle.scope.specs.Writes.{Reports}
 use Rattle.tables.specs.Entered.{AliasesBelow}
 use Rattle.project.proofs.Models.{model}
 use Rattle.project.proofs.Lines.{report_stored}
@@ -47,7 +47,7 @@ module _ (ks ws text : List ℕ) where
   work_if lent space t e = ap (λ (s : Bool). elim s [ true ↦ replicate (length lent) 0 | false ↦ lent ]) e
 
 -- ---- refused input
-module _ (ks ws text : List ℕ) (work space : ℕ) (i : Input) (r : Refusal) (j : i ≡ judged ks ws text work) (e : i ≡ Answers.Refused r) where
+module _ (ks ws text : List ℕ) (work space : ℕ) (i : Checked) (r : Refusal) (j : i ≡ judged ks ws text work) (e : i ≡ Err r) where
   -- its answer
   refused_answer : answer ks ws text work space ≡ Refused r
   refused_answer = answer_refused ks ws text work r space (sym j ∙ e)
@@ -62,7 +62,7 @@ module _ (ks ws text : List ℕ) (work space : ℕ) (i : Input) (r : Refusal) (j
   refused_due = ap length (due_if ks ws text work space false refused_writes)
 
 -- ---- a blank file
-module _ (ks ws text : List ℕ) (work space : ℕ) (j : judged ks ws text work ≡ Answers.Blank) where
+module _ (ks ws text : List ℕ) (work space : ℕ) (j : judged ks ws text work ≡ Ok None) where
   -- its lines are written, of which there are none
   blank_writes : writes (answer ks ws text work space) ≡ true
   unfolding writes
@@ -93,7 +93,7 @@ no_lines_batched ks ws text lent w space a b is none left eb =
     )
 
 -- that of refused input, in the work memory as it was
-pub refused_batched : (ks ws text lent : List ℕ) (space : ℕ) (i : Input) (r : Refusal) (b : Batch) → i ≡ judged ks ws text (length lent) → i ≡ Answers.Refused r
+pub refused_batched : (ks ws text lent : List ℕ) (space : ℕ) (i : Checked) (r : Refusal) (b : Batch) → i ≡ judged ks ws text (length lent) → i ≡ Err r
     → b ≡ no_lines (Refused r) → Batched ks ws text lent space b lent × (b.at ≡ 0)
 refused_batched ks ws text lent space i r b j e =
     no_lines_batched ks ws text lent lent space (Refused r) b
@@ -102,7 +102,7 @@ refused_batched ks ws text lent space i r b j e =
     (work_if ks ws text lent space false (refused_writes ks ws text (length lent) space i r j e))
 
 -- and that of a blank file, in the cleared one
-pub blank_batched : (ks ws text lent w : List ℕ) (space : ℕ) (i : Input) (a : Answer) (b : Batch) → i ≡ judged ks ws text (length lent) → i ≡ Answers.Blank
+pub blank_batched : (ks ws text lent w : List ℕ) (space : ℕ) (i : Checked) (a : Answer) (b : Batch) → i ≡ judged ks ws text (length lent) → i ≡ Ok None
     → (a ≡ Report 0 0) × ((n : ℕ) → length lent ≡ n → w ≡ replicate n 0) → b ≡ no_lines a → Batched ks ws text lent space b w × (b.at ≡ 0)
 blank_batched ks ws text lent w space i a b j e h =
     let is = sym j ∙ e in
@@ -113,16 +113,20 @@ blank_batched ks ws text lent w space i a b j e h =
 
 -- ---- accepted input
 
+-- a pass keeps the length of the work memory
+kept_length : {ls : List Line} {l l' : Lines} → Wrote ls l l' → length l'.out.now ≡ length l.out.now
+kept_length {ls} {l} r = ap length r.out ∙ length_puts l.out.now l.first l.count ls
+
 -- input is accepted where lines are due
-pub accepted_of : (ks ws text : List ℕ) (work space : ℕ) → 0 < length (due ks ws text work space) → (n : ℕ) × (judged ks ws text work ≡ Answers.Accepted n)
+pub accepted_of : (ks ws text : List ℕ) (work space : ℕ) → 0 < length (due ks ws text work space) → (n : ℕ) × (judged ks ws text work ≡ Ok (Some n))
 accepted_of ks ws text work space h = go (judged ks ws text work) refl
   where
-    go : (i : Input) → judged ks ws text work ≡ i → (n : ℕ) × (judged ks ws text work ≡ Answers.Accepted n)
-    go (Answers.Accepted n) j = (n, j)
-    go Answers.Blank j = absurd (omega (arith, h, blank_due ks ws text work space j))
-    go (Answers.Refused r) j = absurd (omega (arith, h, refused_due ks ws text work space (Answers.Refused r) r (sym j) refl))
+    go : (i : Checked) → judged ks ws text work ≡ i → (n : ℕ) × (judged ks ws text work ≡ Ok (Some n))
+    go (Ok (Some n)) j = (n, j)
+    go (Ok None) j = absurd (omega (arith, h, blank_due ks ws text work space j))
+    go (Err r) j = absurd (omega (arith, h, refused_due ks ws text work space (Err r) r (sym j) refl))
 
-module _ (ks ws text lent : List ℕ) (space n : ℕ) (e : judged ks ws text (length lent) ≡ Answers.Accepted n) where
+module _ (ks ws text lent : List ℕ) (space n : ℕ) (e : judged ks ws text (length lent) ≡ Ok (Some n)) where
   -- the work memory is long enough
   enough : 4096 ≤ length lent
   enough = work_accepted ks ws text (length lent) n e
@@ -166,28 +170,31 @@ module _ (ks ws text lent : List ℕ) (space n : ℕ) (e : judged ks ws text (le
         let a : MoreLines m ≡ answer ks ws text (length lent) space = told ∙ sym answered in
         record { answered = a; goal = omega (arith, length_due); names = λ _. refl }
 
-  -- the lines from one on that a pass has written
-  lines_at : (o o' : List ℕ) (m first : ℕ) → Reports (model (accepts ks ws text (length lent) n e)).number first (report (project_of ks ws text)) o 0 m o' → first + room o < 2 ^ 64
-      → (k : ℕ) → k < room o → first + k < length (due ks ws text (length lent) space) → line_in o' k ≡ get_or (due ks ws text (length lent) space) (first + k) blank
-  lines_at o o' m first r fits k h g =
+  -- the lines that a pass has written, from number `first` on
+  lines_at : (l l' : Lines) (first : ℕ) → Reports (model (accepts ks ws text (length lent) n e)).number (report (project_of ks ws text)) l l' → l.first ≡ first → l.count ≡ 0
+      → first + room l.out.now < 2 ^ 64 → (k : ℕ) → k < room l.out.now → first + k < length (due ks ws text (length lent) space)
+      → line_in l'.out.now k ≡ get_or (due ks ws text (length lent) space) (first + k) blank
+  lines_at l l' first r from none fits k h g =
       let a = accepts ks ws text (length lent) n e in
-      ap (λ (l : List ℕ). line_in l k) (r.out ∙ ap (puts o first 0) (report_stored a))
-      ∙ puts_reads o first (stored_report ks ws text) fits k blank h (omega (arith, length_due, length_stored))
-      ∙ sym (ap (λ (l : List Line). get_or l (first + k) blank) due_is ∙ get_or-take space (stored_report ks ws text) (first + k) blank (omega (arith, length_due)))
+      let out : l'.out.now ≡ puts l.out.now first 0 (stored_report ks ws text) = rw (from, none, report_stored a) at r.out in
+      ap (λ (o : List ℕ). line_in o k) out
+      ∙ puts_reads l.out.now first (stored_report ks ws text) fits k blank h (omega (arith, length_due, length_stored))
+      ∙ sym (ap (λ (ls : List Line). get_or ls (first + k) blank) due_is ∙ get_or-take space (stored_report ks ws text) (first + k) blank (omega (arith, length_due)))
 
   -- a pass and its count are a batch
-  pub counted_batched : (b : Batch) (o o' : List ℕ) (m : ℕ) → Sums ks ws text (length lent) space b
-      → Reports (model (accepts ks ws text (length lent) n e)).number b.at (report (project_of ks ws text)) o 0 m o' → length o ≡ length lent → length o < 2 ^ 64 → space < 2 ^ 63 → b.at < b.goal
-      → Batched ks ws text lent space (counted b (length o)) o'
-  counted_batched b o o' m s r long fits small more =
-      let same : length o' ≡ length o = ap length r.out ∙ length_puts o b.at 0 (map (line_by (model (accepts ks ws text (length lent) n e)).number) (report (project_of ks ws text))) in
+  pub counted_batched : (b : Batch) (l l' : Lines) → Sums ks ws text (length lent) space b
+      → Reports (model (accepts ks ws text (length lent) n e)).number (report (project_of ks ws text)) l l' → l.first ≡ b.at → l.count ≡ 0
+      → length l.out.now ≡ length lent → length l.out.now < 2 ^ 64 → space < 2 ^ 63 → b.at < b.goal
+      → Batched ks ws text lent space (counted b (length l.out.now)) l'.out.now
+  counted_batched b l l' s r from none long fits small more =
+      let same : length l'.out.now ≡ length l.out.now = kept_length r in
       let g = s.goal in
       record {
         sums = record { answered = s.answered; goal = s.goal; names = s.names };
         within = omega arith;
         some = λ _. omega (arith, enough);
         fits = omega arith;
-        lines = λ k h. lines_at o o' m b.at r (omega (arith, length_due)) k (omega arith) (omega arith);
+        lines = λ k h. lines_at l l' b.at r from none (omega (arith, length_due)) k (omega arith) (omega arith);
         done = λ h. absurd (omega arith);
       }
 
@@ -204,14 +211,14 @@ module _ (ks ws text lent : List ℕ) (space n : ℕ) (e : judged ks ws text (le
 
   -- the first batch
   begun_sums : (b : Batch) (w : List ℕ) → space < 2 ^ 63 → (h : Begun (model (accepts ks ws text (length lent) n e)) space lent b w) → Sums ks ws text (length lent) space h.sum × ((h.sum.at ≡ 0) × (h.sum.count ≡ 0))
-  begun_sums b w small h = go (dec_lt space h.n)
+  begun_sums b w small h = go (dec_lt space h.l'.count)
     where
-      is : h.n ≡ min (length (report (project_of ks ws text))) (2 ^ 64 - 1)
-      is = closed_count (model (accepts ks ws text (length lent) n e)).number (report (project_of ks ws text)) h.reports
+      is : h.l'.count ≡ min (length (report (project_of ks ws text))) (2 ^ 64 - 1)
+      is = closed_count (model (accepts ks ws text (length lent) n e)).number (report (project_of ks ws text)) h.first h.fresh h.reports
 
-      go : Dec (space < h.n) → Sums ks ws text (length lent) space h.sum × ((h.sum.at ≡ 0) × (h.sum.count ≡ 0))
-      go (yes l) = let q = h.many l in (subst (Sums ks ws text (length lent) space) (sym q) (sums_many small h.n is l), (ap (λ (c : Batch). c.at) q, ap (λ (c : Batch). c.count) q))
-      go (no l) = let q = h.few (omega arith) in (subst (Sums ks ws text (length lent) space) (sym q) (sums_few small h.n is h.looks h.looked (omega arith)), (ap (λ (c : Batch). c.at) q, ap (λ (c : Batch). c.count) q))
+      go : Dec (space < h.l'.count) → Sums ks ws text (length lent) space h.sum × ((h.sum.at ≡ 0) × (h.sum.count ≡ 0))
+      go (yes l) = let q = h.many l in (subst (Sums ks ws text (length lent) space) (sym q) (sums_many small h.l'.count is l), (ap (λ (c : Batch). c.at) q, ap (λ (c : Batch). c.count) q))
+      go (no l) = let q = h.few (omega arith) in (subst (Sums ks ws text (length lent) space) (sym q) (sums_few small h.l'.count is h.looks h.looked (omega arith)), (ap (λ (c : Batch). c.at) q, ap (λ (c : Batch). c.count) q))
 
   pub begun_batched : (b : Batch) (w : List ℕ) → space < 2 ^ 63 → length lent < 2 ^ 64 → Begun (model (accepts ks ws text (length lent) n e)) space lent b w → Batched ks ws text lent space b w × (b.at ≡ 0)
   begun_batched b w small fits h = go (dec_lt 0 h.sum.goal)
@@ -223,9 +230,9 @@ module _ (ks ws text lent : List ℕ) (space n : ℕ) (e : judged ks ws text (le
       go (yes l) =
           let q = h.some l in (
             subst (λ (c : Batch). Batched ks ws text lent space c w) (sym q.0) (subst (Batched ks ws text lent space (counted h.sum (length lent))) (sym q.1) (
-                counted_batched h.sum lent h.o' h.n s.0
-                (subst (λ (k : ℕ). Reports (model (accepts ks ws text (length lent) n e)).number k (report (project_of ks ws text)) lent 0 h.n h.o') (sym s.1.0) h.reports)
-                refl fits small (omega (arith, s.1.0, l))
+                rw h.lent at (
+                counted_batched h.sum h.l h.l' s.0 h.reports (h.first ∙ sym s.1.0) h.fresh (ap length h.lent) (omega (arith, ap length h.lent)) small (omega (arith, s.1.0, l))
+                )
                 )),
             ap (λ (c : Batch). c.at) q.0 ∙ s.1.0,
           )
@@ -236,7 +243,7 @@ module _ (ks ws text lent : List ℕ) (space n : ℕ) (e : judged ks ws text (le
           )
 
 -- the first batch of accepted input, by the contract of `begin`
-pub first_accepted : (ks ws text lent : List ℕ) (space n : ℕ) (b : Batch) (w : List ℕ) → judged ks ws text (length lent) ≡ Answers.Accepted n → space < 2 ^ 63 → length lent < 2 ^ 64
+pub first_accepted : (ks ws text lent : List ℕ) (space n : ℕ) (b : Batch) (w : List ℕ) → judged ks ws text (length lent) ≡ Ok (Some n) → space < 2 ^ 63 → length lent < 2 ^ 64
     → ((g : Model ks ws) → g.names ≡ n → Begun g space lent b w) → Batched ks ws text lent space b w × (b.at ≡ 0)
 first_accepted ks ws text lent space n b w e small fits h =
     begun_batched ks ws text lent space n e b w small fits (h (model (accepts ks ws text (length lent) n e)) (count_is ks ws text (length lent) n e))
@@ -249,11 +256,6 @@ blank_graph =
     let zeros : List ℕ = replicate 4096 0 in
     subst Blank (take_all 4096 zeros (omega (arith, length-replicate {A = ℕ} 4096 0))) (blank_front {w = zeros} {n = 4096} refl (omega arith))
 
--- the batch b with k lines, where k of them are due and have places
-pub counted_with : (b : Batch) (len k : ℕ) → k ≡ min (b.goal - b.at) (len / 6)
-    → record { answer = b.answer; names = b.names; goal = b.goal; at = b.at; count = k } ≡ counted b len
-counted_with b len k e = ap (λ (m : ℕ). record { answer = b.answer; names = b.names; goal = b.goal; at = b.at; count = m }) e
-
 -- the sum of n lines begins at the first
 pub sum_within : (n looks names space : ℕ) (b : Batch) → (n ≤ space → b ≡ fitting n looks names) × (space < n → b ≡ overfull n names space) → b.at ≤ b.goal
 sum_within n looks names space b s = go (dec_lt space n)
@@ -262,39 +264,50 @@ sum_within n looks names space b s = go (dec_lt space n)
     go (yes l) = let z : b.at ≡ 0 = ap (λ (c : Batch). c.at) (s.1 l) in omega (arith, z)
     go (no l) = let z : b.at ≡ 0 = ap (λ (c : Batch). c.at) (s.0 (omega arith)) in omega (arith, z)
 
-module _ {ks ws : List ℕ} (g : Model ks ws) (names space n looks : ℕ) (o o' : List ℕ) (b : Batch) (q : g.names ≡ names)
-    (r : Reports g.number 0 (report g.P) o 0 n o' × (looks ≡ followed g.P)) (s : (n ≤ space → b ≡ fitting n looks names) × (space < n → b ≡ overfull n names space)) where
-  kept_length : length o' ≡ length o
-  kept_length = ap length r.0.out ∙ length_puts o 0 0 (map (line_by g.number) (report g.P))
+module _ {ks ws : List ℕ} (g : Model ks ws) {names space looks : ℕ} {l l' : Lines} {b : Batch} (q : g.names ≡ names) (first : l.first ≡ 0) (fresh : l.count ≡ 0)
+    (r : Reports g.number (report g.P) l l' × (looks ≡ followed g.P)) (s : (l'.count ≤ space → b ≡ fitting l'.count looks names) × (space < l'.count → b ≡ overfull l'.count names space))
+    {o : List ℕ} (back : l.out.ghost_name ≡ l'.out.ghost_name → o ≡ l'.out.now) where
+  -- the work memory o behind the lines is what they left
+  left : o ≡ l'.out.now
+  left = back (sym r.0.same)
+
+  left_length : length o ≡ length l.out.now
+  left_length = ap length left ∙ kept_length r.0
 
   -- no line is due
-  pub begun_cleared : (w : List ℕ) → b.goal ≡ 0 → w ≡ replicate (length o') 0 → Begun g space o b w
-  begun_cleared w z c = record {
-    n = n;
+  pub begun_cleared : {w : List ℕ} → b.goal ≡ 0 → w ≡ replicate (length o) 0 → Begun g space l.out.now b w
+  begun_cleared z c = record {
+    l = l;
+    l' = l';
     looks = looks;
-    o' = o';
     sum = b;
+    lent = refl;
+    first = first;
+    fresh = fresh;
     reports = r.0;
     looked = r.1;
-    few = λ l. s.0 l ∙ ap (fitting n looks) (sym q);
-    many = λ l. s.1 l ∙ ap (λ (m : ℕ). overfull n m space) (sym q);
-    none = λ _. (refl, c ∙ ap (λ (m : ℕ). replicate m 0) kept_length);
-    some = λ l. absurd (omega (arith, z, l));
+    few = λ h. s.0 h ∙ ap (fitting l'.count looks) (sym q);
+    many = λ h. s.1 h ∙ ap (λ (m : ℕ). overfull l'.count m space) (sym q);
+    none = λ _. (refl, c ∙ ap (λ (m : ℕ). replicate m 0) left_length);
+    some = λ h. absurd (omega (arith, z, h));
   }
 
   -- some are
-  pub begun_counted : (d : Batch) → (b.goal ≡ 0 → ⊥) → d ≡ counted b (length o') → Begun g space o d o'
-  begun_counted d z c = record {
-    n = n;
+  pub begun_counted : {d : Batch} → (b.goal ≡ 0 → ⊥) → d ≡ counted b (length o) → Begun g space l.out.now d o
+  begun_counted z c = record {
+    l = l;
+    l' = l';
     looks = looks;
-    o' = o';
     sum = b;
+    lent = refl;
+    first = first;
+    fresh = fresh;
     reports = r.0;
     looked = r.1;
-    few = λ l. s.0 l ∙ ap (fitting n looks) (sym q);
-    many = λ l. s.1 l ∙ ap (λ (m : ℕ). overfull n m space) (sym q);
-    none = λ l. absurd (z l);
-    some = λ _. (c ∙ ap (counted b) kept_length, refl);
+    few = λ h. s.0 h ∙ ap (fitting l'.count looks) (sym q);
+    many = λ h. s.1 h ∙ ap (λ (m : ℕ). overfull l'.count m space) (sym q);
+    none = λ h. absurd (z h);
+    some = λ _. (c ∙ ap (counted b) left_length, left);
   }
 
 -- ---- the next batch
@@ -306,7 +319,7 @@ module _ (ks ws work : List ℕ) (b : Batch) (g : Going ks ws work b) where
   abbrev names : ℕ
   names = (accepted_of ks ws g.text (length g.lent) g.room due_some).0
 
-  accepted : judged ks ws g.text (length g.lent) ≡ Answers.Accepted names
+  accepted : judged ks ws g.text (length g.lent) ≡ Ok (Some names)
   accepted = (accepted_of ks ws g.text (length g.lent) g.room due_some).1
 
   -- the number of names is right
@@ -314,11 +327,12 @@ module _ (ks ws work : List ℕ) (b : Batch) (g : Going ks ws work b) where
   names_are = g.batch.sums.names (omega (arith, g.more))
 
   -- what a pass asks
-  pub going_model : ((m : Model ks ws) × (m.names ≡ b.names)) × AliasesBelow ks ws b.names
-  going_model = (
-    (model (accepts ks ws g.text (length g.lent) names accepted), sym names_are),
-    subst (AliasesBelow ks ws) (sym (count_is ks ws g.text (length g.lent) names accepted) ∙ sym names_are) (aliases_accepted ks ws g.text (length g.lent) names accepted),
-  )
+  pub going_model : (m : Model ks ws) × (m.names ≡ b.names)
+  going_model = (model (accepts ks ws g.text (length g.lent) names accepted), sym names_are)
+
+  pub going_aliases : AliasesBelow ks ws b.names
+  going_aliases =
+      subst (AliasesBelow ks ws) (sym (count_is ks ws g.text (length g.lent) names accepted) ∙ sym names_are) (aliases_accepted ks ws g.text (length g.lent) names accepted)
 
   abbrev moved : Batch
   moved = record { answer = b.answer; names = b.names; goal = b.goal; at = b.at + b.count; count = 0 }
@@ -336,15 +350,17 @@ module _ (ks ws work : List ℕ) (b : Batch) (g : Going ks ws work b) where
   )
 
   -- and before
-  pub going_on : (r : Batch) (o : List ℕ) (m : ℕ) → r ≡ counted moved (length o) → (b.at + b.count ≡ b.goal → ⊥) → length work < 2 ^ 64
-      → ((g' : Model ks ws) → g'.names ≡ b.names → Reports g'.number (b.at + b.count) (report g'.P) work 0 m o) → Batched ks ws g.text g.lent g.room r o × (r.at ≡ b.at + b.count)
-  going_on r o m q h fits p =
-      let a = model (accepts ks ws g.text (length g.lent) names accepted) in
-      let w = p a (sym names_are) in
-      let long : length o ≡ length work = ap length w.out ∙ length_puts work (b.at + b.count) 0 (map (line_by a.number) (report a.P)) in
-      let is : r ≡ counted moved (length work) = q ∙ ap (counted moved) long in (
+  pub going_on : (r : Batch) (l l' : Lines) (o : List ℕ) → r ≡ counted moved (length o) → (b.at + b.count ≡ b.goal → ⊥) → l.out.now ≡ work → l.first ≡ b.at + b.count → l.count ≡ 0 → length work < 2 ^ 64
+      → (l.out.ghost_name ≡ l'.out.ghost_name → o ≡ l'.out.now) → ((g' : Model ks ws) → g'.names ≡ b.names → Reports g'.number (report g'.P) l l')
+      → Batched ks ws g.text g.lent g.room r o × (r.at ≡ b.at + b.count)
+  going_on r l l' o q h same from none fits back p =
+      let w = p (model (accepts ks ws g.text (length g.lent) names accepted)) (sym names_are) in
+      let left : o ≡ l'.out.now = back (sym w.same) in
+      let is : r ≡ counted moved (length l.out.now) = q ∙ ap (counted moved) (ap length left ∙ kept_length w) in
+      let long : length l.out.now ≡ length work = ap length same in (
         subst (λ (t : Batch). Batched ks ws g.text g.lent g.room t o) (sym is) (
-            counted_batched ks ws g.text g.lent g.room names accepted moved work o m moved_sums w g.long fits g.small (omega (arith, g.batch.within, h))
-            ),
+            subst (Batched ks ws g.text g.lent g.room (counted moved (length l.out.now))) (sym left) (
+            counted_batched ks ws g.text g.lent g.room names accepted moved l l' moved_sums w from none (long ∙ g.long) (omega (arith, long)) g.small (omega (arith, g.batch.within, h))
+            )),
         ap (λ (t : Batch). t.at) is,
       )

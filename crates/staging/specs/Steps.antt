@@ -4,6 +4,7 @@ use Rattle.std.specs.Prelude.{ℕ, ◌-◌, ◌/◌, ◌≤◌, ◌<◌, min, �
 use Rattle.lustre.specs.Report.{report, followed}
 use Rattle.lustre.specs.declared.Answer.{Answer}
 use Rattle.lustre.specs.declared.Answer.TheVariants.{Report, MoreLines}
+use Rattle.lines.specs.declared.Lines.{Lines}
 use Rattle.scope.specs.Model.{Model}
 use Rattle.scope.specs.Writes.{Reports}
 use Rattle.staging.specs.declared.Batch.{Batch}
@@ -24,16 +25,19 @@ overfull n names room = record { answer = MoreLines n; names = names; goal = roo
 abbrev pub counted : Batch → ℕ → Batch
 counted b len = record { answer = b.answer; names = b.names; goal = b.goal; at = b.at; count = min (b.goal - b.at) (len / 6) }
 
--- The first batch b of a model: n lines are reported from the first on, into the work memory o as o'; b sums them, and counts those that
--- stand in the work memory w, which is o', or cleared where no line is due.
+-- The first batch b of a model: the report's lines are written from the first on to the work memory o; b sums them, and counts those that
+-- stand in the work memory w, which is as they left it, or cleared where no line is due.
 pub record Begun {ks ws : List ℕ} (g : Model ks ws) (room : ℕ) (o : List ℕ) (b : Batch) (w : List ℕ) : Type 0 where
-  pub n : ℕ
+  pub l : Lines
+  pub l' : Lines
   pub looks : ℕ
-  pub o' : List ℕ
   pub sum : Batch
-  pub reports : Reports g.number 0 (report g.P) o 0 n o'
+  pub lent : l.out.now ≡ o
+  pub first : l.first ≡ 0
+  pub fresh : l.count ≡ 0
+  pub reports : Reports g.number (report g.P) l l'
   pub looked : looks ≡ followed g.P
-  pub few : n ≤ room → sum ≡ fitting n looks g.names
-  pub many : room < n → sum ≡ overfull n g.names room
+  pub few : l'.count ≤ room → sum ≡ fitting l'.count looks g.names
+  pub many : room < l'.count → sum ≡ overfull l'.count g.names room
   pub none : sum.goal ≡ 0 → (b ≡ sum) × (w ≡ replicate (length o) 0)
-  pub some : 0 < sum.goal → (b ≡ counted sum (length o)) × (w ≡ o')
+  pub some : 0 < sum.goal → (b ≡ counted sum (length o)) × (w ≡ l'.out.now)

@@ -11,12 +11,10 @@ ghost use Rattle.tables.specs.Entered.{AliasesBelow};
 ghost use Rattle.staging.specs.Batches.{Batched, Going};
 ghost use Rattle.staging.specs.Steps.{no_lines, fitting, overfull, counted, Begun};
 
-use input::{Input, check_input};
-use lustre::Answer;
-use project::{clear, report, report_blank};
-
-// Words of the graph that a pass is lent: eight for each of 512 names. The work memory holds lines meanwhile, so the graph is a local.
-const GRAPH: usize = 4096;
+use input::check_input;
+use lines::Lines;
+use lustre::{Answer, Records};
+use project::{GRAPH, report, report_blank};
 
 // What stands in the work memory: the answer of the call, the number of names, how many lines are to be stored in all, the number of the
 // first line that stands there, and how many do.
@@ -48,19 +46,15 @@ fn sum(n: u64, looks: u64, names: u64, room: usize) -> Batch
 {
     if n <= room as u64 {
         return Batch {
-            answer: Answer::Report(n, looks),
             names,
             goal: n as usize,
-            at: 0,
-            count: 0,
+            ..no_lines(Answer::Report(n, looks))
         };
     }
     Batch {
-        answer: Answer::MoreLines(n),
         names,
         goal: room,
-        at: 0,
-        count: 0,
+        ..no_lines(Answer::MoreLines(n))
     }
 }
 
@@ -70,28 +64,28 @@ fn count(b: Batch, len: usize) -> Batch
     ensures { result ≡ counted b len }
 {
     let left = b.goal - b.at;
-    let places = len / 6;
-    let n = if left < places { left } else { places };
-    let answer = b.answer;
     Batch {
-        answer,
-        names: b.names,
-        goal: b.goal,
-        at: b.at,
-        count: n,
+        count: left.min(len / 6),
+        ..b
     }
 }
 
-// The first batch of accepted input.
-fn begin(kinds: &[u8], words: &[u64], names: u64, work: &mut [u64], room: usize) -> Batch
-    requires { ((g : Model kinds.now words.now) × (g.names ≡ names)) × AliasesBelow kinds.now words.now names }
-    ensures { (g : Model kinds.now words.now) → g.names ≡ names → Begun g room work.old result work.new }
+// The first batch of accepted input. The work memory holds its lines, so the graph of the pass is a local.
+fn begin(records: &Records, names: u64, work: &mut [u64], room: usize) -> Batch
+    requires model { (g : Model records.now.kinds.now records.now.words.now) × (g.names ≡ names) }
+    requires aliases { AliasesBelow records.now.kinds.now records.now.words.now names }
+    ensures { (g : Model records.now.kinds.now records.now.words.now) → g.names ≡ names → Begun g room work.old result work.new }
 {
-    let mut graph = [0u64; GRAPH];
-    let j = report(kinds, words, names, 0, &mut graph, work);
-    let b = sum(j.n, j.looks, names, room);
+    let mut graph = [0; GRAPH];
+    let mut lines = Lines {
+        out: work,
+        first: 0,
+        count: 0,
+    };
+    let looks = report(records, names, &mut graph, &mut lines);
+    let b = sum(lines.count, looks, names, room);
     if b.goal == 0 {
-        clear(work);
+        work.fill(0);
         return b;
     }
     count(b, work.len())
@@ -103,9 +97,9 @@ pub fn first_batch(kinds: &[u8], words: &[u64], text: &[u8], work: &mut [u64], r
     ensures { Batched kinds.now words.now text.now work.old room result work.new × (result.at ≡ 0) }
 {
     match check_input(kinds, words, text, work.len()) {
-        Input::Accepted(names) => begin(kinds, words, names, work, room),
-        Input::Blank => no_lines(report_blank(work)),
-        Input::Refused(r) => no_lines(Answer::Refused(r)),
+        Ok(Some(names)) => begin(&Records { kinds, words }, names, work, room),
+        Ok(None) => no_lines(report_blank(work)),
+        Err(r) => no_lines(Answer::Refused(r)),
     }
 }
 
@@ -115,26 +109,17 @@ pub fn next_batch(kinds: &[u8], words: &[u64], work: &mut [u64], b: Batch) -> Ba
     ensures { (g : Going kinds.now words.now work.old b) → Batched kinds.now words.now g.text g.lent g.room result work.new × (result.at ≡ b.at + b.count) }
 {
     let at = b.at + b.count;
-    let answer = b.answer;
-    let c = Batch {
-        answer,
-        names: b.names,
-        goal: b.goal,
-        at,
-        count: 0,
-    };
-    if at == b.goal {
-        clear(work);
+    let c = Batch { at, count: 0, ..b };
+    if at == c.goal {
+        work.fill(0);
         return c;
     }
-    let mut graph = [0u64; GRAPH];
-    report(kinds, words, b.names, at as u64, &mut graph, work);
+    let mut graph = [0; GRAPH];
+    let mut lines = Lines {
+        out: work,
+        first: at as u64,
+        count: 0,
+    };
+    report(&Records { kinds, words }, c.names, &mut graph, &mut lines);
     count(c, work.len())
-}
-
-// The answer of a batch.
-pub fn answer_of(b: Batch) -> Answer
-    ensures { result ≡ b.answer }
-{
-    b.answer
 }

@@ -212,12 +212,12 @@ unfolding owed owes
 iterate_from_owes Map w = refl
 iterate_from_owes Fold w = refl
 
--- what a turn of a walk needs: there is a record of a kind of parts, and what is owed behind it fits
+-- what a turn of a walk needs, where something is owed: there is a record of a kind of parts, and what is owed behind it fits
 pub record Turn (ks ws : List ℕ) (at left : ℕ) : Type 0 where
-  pub in_kinds : at < length ks
-  pub in_words : at < length ws
-  pub known : get_or ks at 0 < 85
-  pub few : left - 1 + owes (get_or ks at 0) (get_or ws at 0) ≤ length ks
+  pub in_kinds : 0 < left → at < length ks
+  pub in_words : 0 < left → at < length ws
+  pub known : 0 < left → get_or ks at 0 < 85
+  pub few : 0 < left → left - 1 + owes (get_or ks at 0) (get_or ws at 0) ≤ length ks
 
 module _ (S : Source) where
   -- the kind of the record at a position
@@ -367,7 +367,9 @@ module _ (S : Source) where
         (q, omega arith)
 
   -- where the records reach the end, a turn has what it needs
-  pub turn : {ps : List Part} {at end left : ℕ} → Owing ps at end left → end ≤ length S.ks → (left ≡ 0 → ⊥) → Turn S.ks S.ws at left
-  turn w h z =
-      let n = next w z in
-      record { in_kinds = n.head.in_kinds; in_words = n.head.in_words; known = n.known; few = omega (arith, owing_few n.onward) }
+  module _ {ps : List Part} {at end left : ℕ} (w : Owing ps at end left) where
+    first_of : 0 < left → Next ps at end left
+    first_of z = next w (λ e. omega arith)
+
+    pub turn : end ≤ length S.ks → Turn S.ks S.ws at left
+    turn h = record { in_kinds = λ z. (first_of z).head.in_kinds; in_words = λ z. (first_of z).head.in_words; known = λ z. (first_of z).known; few = λ z. omega (arith, owing_few (first_of z).onward) }

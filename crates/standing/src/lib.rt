@@ -3,49 +3,46 @@
 // that a walk needs no stack: it ends where nothing is owed.
 #![tactic(auto)]
 
-mod table;
-
 ghost use Rattle.std.specs.Prelude.{◌+◌, ◌<◌, ◌≡◌};
 ghost use Rattle.lustre.specs.Expr.{size};
 ghost use Rattle.standing.specs.Owed.{owes as owes_of, There};
 
-// The number of parts that follow a record of a type or an expression. Below 67 only a list, an array type, not, minus and the operators
-// have any.
+use lustre::{Records, kinds};
+
+// The first kind of a binary operator.
+const FIRST_BINARY: u8 = kinds::MINUS + 1;
+
+// The number of parts that follow a record of a type or an expression; a call, a struct and an iterator owe their list, and a cast its
+// type beside its operand.
+#[tactic(auto, unfolding(crate::specs::Owed::owed, crate::specs::Owed::owes))]
 pub fn owes(kind: u8, word: u64) -> u64
     requires { kind < 85 }
     ensures { result ≡ owes_of kind word }
 {
-    if kind < 32 {
-        if kind == 3 {
-            return word;
-        }
-        return 0;
+    match kind {
+        kinds::LIST | kinds::TUPLE | kinds::ARRAY => word,
+        kinds::IF => 3,
+        FIRST_BINARY..=kinds::SHIFT_RIGHT => 2,
+        kinds::ARROW | kinds::INDEX | kinds::CAST | kinds::MERGE => 2,
+        kinds::MAP_FROM | kinds::FOLD_FROM => 2,
+        kinds::ARRAY_TYPE | kinds::NOT | kinds::MINUS => 1,
+        kinds::PRE | kinds::CALL | kinds::FIELD | kinds::STRUCT => 1,
+        kinds::WHEN_TRUE | kinds::WHEN_FALSE | kinds::MAP | kinds::FOLD => 1,
+        kinds::FIELD_VALUE => 1,
+        _ => 0,
     }
-    if kind < 45 {
-        if kind == 32 {
-            return 1;
-        }
-        return 0;
-    }
-    if kind < 47 {
-        return 1;
-    }
-    if kind < 67 {
-        return 2;
-    }
-    let n = table::OWED[kind as usize - 67];
-    if n == table::BY_WORD { word } else { n }
 }
 
 // The record behind the expression at a place.
-pub fn skip(kinds: &[u8], words: &[u64], at: usize) -> usize
-    requires { There kinds.now words.now at }
-    ensures { (g : There kinds.now words.now at) → result ≡ at + size g.e }
+pub fn skip(records: &Records, at: usize) -> usize
+    requires { There records.now.kinds.now records.now.words.now at }
+    ensures { (g : There records.now.kinds.now records.now.words.now at) → result ≡ at + size g.e }
 {
     let mut next = at;
     let mut left: u64 = 1;
+    // Kept: the walk ends where nothing is owed, so that no number of turns is known before it.
     while left > 0 {
-        left = left - 1 + owes(kinds[next], words[next]);
+        left = left - 1 + owes(records.kinds[next], records.words[next]);
         next += 1;
     }
     next

@@ -21,6 +21,7 @@ use Rattle.loops.specs.Rows.{passing}
 use Rattle.loops.proofs.Rows.{passing_pass, passing_miss}
 use Rattle.loops.proofs.Order.{set_texts}
 use Rattle.standing.specs.Standing.{DeclAt}
+use Rattle.lines.specs.declared.Lines.{Lines}
 use Rattle.scope.specs.Model.{Model}
 use Rattle.lustre.specs.Line.{Line, at_type, about}
 use Rattle.lustre.specs.Resolve.{context, try_resolve}
@@ -80,7 +81,8 @@ module _ {ks ws sc nums : List ℕ} (g : TypesHere ks ws sc nums) where
     -- and one that does not
     pub alias_there : {r : Bool} → NameResolves ks ws sc name r → r ≡ false → (get_or nums name 0 ≡ 0 → ⊥) → one_alias g.model (g.model.text name) ≡ line at_type (get_or nums name 0 - 1) (about 8 (g.model.text name)) ∷ []
     alias_there h e n =
-        let f = found entry n in
+        let z : get_or nums name 0 ≡ get_or nums name 0 - 1 + 1 = omega (arith, n) in
+        let f = found entry z in
         line_there (g.model.text name) (try_resolve (context (skeleton g.model.P)).alias 65 [] (Named (g.model.text name))) (get_or nums name 0 - 1) (sym (resolved h) ∙ e) (f.is ∙ ap (λ (i : ℕ). some i) (sym f.there))
 
 -- ---- all aliases, in name order
@@ -161,7 +163,7 @@ module _ {ks ws sc nums : List ℕ} (g : TypesHere ks ws sc nums) where
     lines_none j h = rw (none_pass (512 - j) j (λ b l u. mustnt (is_alias b) (λ e. (let w = within b e in omega arith))))
 
   -- the lines of a name and those behind it
-  pub reports_alias : {first j : ℕ} {o o₁ o' : List ℕ} {n m k : ℕ} → j < 512 → Reports g.model.number first (one_alias g.model (g.model.text j)) o n m o₁ → Reports g.model.number first (lines_from (512 - (j + 1)) (j + 1)) o₁ m k o' → Reports g.model.number first (lines_from (512 - j) j) o n k o'
+  pub reports_alias : {j : ℕ} {o o₁ o' : Lines} → j < 512 → Reports g.model.number (one_alias g.model (g.model.text j)) o o₁ → Reports g.model.number (lines_from (512 - (j + 1)) (j + 1)) o₁ o' → Reports g.model.number (lines_from (512 - j) j) o o'
   reports_alias {j = j} h d f =
       let z : 512 - j ≡ suc (512 - (j + 1)) = omega arith in
       rw (z, lines_step (512 - (j + 1)) j h) (reports_append g.model.number (one_alias g.model (g.model.text j)) (lines_from (512 - (j + 1)) (j + 1)) d f)

@@ -17,6 +17,7 @@ use Rattle.input.specs.Depths.{ShallowDecl}
 use Rattle.demands.proofs.Sets.{mem_snoc}
 use Rattle.lines.specs.Lines.{Noted}
 use Rattle.lines.specs.declared.Spot.{Spot}
+use Rattle.lines.specs.declared.Lines.{Lines}
 use Rattle.loops.specs.Rows.{has, Connected}
 use Rattle.standing.specs.Standing.{Source, NameAt, DeclAt}
 use Rattle.rules.specs.World.{Typed, Listed}
@@ -163,29 +164,29 @@ module _ {ks ws : List ℕ} {at : ℕ} (g : TypeGiven ks ws at) where
       (holds_add (apart g.model) head.name.small c h)
 
   -- the line of the name
-  first_line : {pack first : ℕ} {q : Spot} {o o₁ known : List ℕ} {n m : ℕ} (ds : List Decl) → Spotted q 0 pack first
-      → Noted g.model.number q (if has known 0 (get_or ws at 0) then about 6 (decl_name g.d) ∷ [] else []) o n m o₁ → Holds g.model.text (map decl_name ds) known
-      → (seen : List Name) → SameNames seen (map decl_name ds) → Reports g.model.number first (if decl_name g.d among seen then line at_package pack (about 6 (decl_name g.d)) ∷ [] else []) o n m o₁
+  first_line : {pack : ℕ} {q : Spot} {known : List ℕ} {o o₁ : Lines} (ds : List Decl) → Spotted q 0 pack
+      → Noted g.model.number q (if has known 0 (get_or ws at 0) then about 6 (decl_name g.d) ∷ [] else []) o o₁ → Holds g.model.text (map decl_name ds) known
+      → (seen : List Name) → SameNames seen (map decl_name ds) → Reports g.model.number (if decl_name g.d among seen then line at_package pack (about 6 (decl_name g.d)) ∷ [] else []) o o₁
   unfolding place_number
   first_line {known = known} ds s d h seen same =
       let e : has known 0 (get_or ws at 0) ≡ (decl_name g.d among seen) = h.each (get_or ws at 0) head.name.small ∙ ap (λ (y : Name). y among map decl_name ds) head.name.text ∙ sym (same (decl_name g.d)) in
       repeated at_package 6 (decl_name g.d) (decl_name g.d among seen) s (rw e at d)
 
   -- what the call has entered and written
-  abbrev pub DeclaredType : (pack number first : ℕ) (ds : List Decl) (sc nums known o : List ℕ) (n m : ℕ) (o' : List ℕ) → Type 0
-  DeclaredType pack number first ds sc nums known o n m o' = Entered g.model (ds ++ (g.d ∷ [])) sc nums known × ((seen variants : List Name) → SameNames seen (map decl_name ds) → SameNames variants (map (λ e. e.0) (variants_of ds)) → Reports g.model.number first (one_type pack number seen variants g.d) o n m o')
+  abbrev pub DeclaredType : (pack number : ℕ) (ds : List Decl) (sc nums known : List ℕ) (o o' : Lines) → Type 0
+  DeclaredType pack number ds sc nums known o o' = Entered g.model (ds ++ (g.d ∷ [])) sc nums known × ((seen variants : List Name) → SameNames seen (map decl_name ds) → SameNames variants (map (λ e. e.0) (variants_of ds)) → Reports g.model.number (one_type pack number seen variants g.d) o o')
 
-  module _ {pack number first : ℕ} {q : Spot} {o o₁ : List ℕ} {n m : ℕ} {sc nums known known' : List ℕ} (ds : List Decl) (count : length ds ≡ number) (s : Spotted q 0 pack first)
-      (d : Noted g.model.number q (if has known 0 (get_or ws at 0) then about 6 (decl_name g.d) ∷ [] else []) o n m o₁) (c : Connected known 0 (get_or ws at 0) known') (E : Entered g.model ds sc nums known) where
+  module _ {pack number : ℕ} {q : Spot} {o o₁ : Lines} {sc nums known known' : List ℕ} (ds : List Decl) (count : length ds ≡ number) (s : Spotted q 0 pack)
+      (d : Noted g.model.number q (if has known 0 (get_or ws at 0) then about 6 (decl_name g.d) ∷ [] else []) o o₁) (c : Connected known 0 (get_or ws at 0) known') (E : Entered g.model ds sc nums known) where
     -- no line behind that of the name
-    name_only : variants_in g.d ≡ [] → (seen variants : List Name) → SameNames seen (map decl_name ds) → Reports g.model.number first (one_type pack number seen variants g.d) o n m o₁
+    name_only : variants_in g.d ≡ [] → (seen variants : List Name) → SameNames seen (map decl_name ds) → Reports g.model.number (one_type pack number seen variants g.d) o o₁
     unfolding repeated_variants
     name_only e seen variants h =
         rw (e, append-nil (if decl_name g.d among seen then line at_package pack (about 6 (decl_name g.d)) ∷ [] else []))
         (first_line ds s d E.names seen h)
 
     -- an alias
-    pub alias_entered : get_or ks at 0 ≡ 4 → length nums ≡ 512 → DeclaredType pack number first ds (set sc (get_or ws at 0) (at + 1)) (set nums (get_or ws at 0) (number + 1)) known' o n m o₁
+    pub alias_entered : get_or ks at 0 ≡ 4 → length nums ≡ 512 → DeclaredType pack number ds (set sc (get_or ws at 0) (at + 1)) (set nums (get_or ws at 0) (number + 1)) known' o o₁
     unfolding variants_in
     alias_entered k room =
         let w : ℕ = get_or ws at 0 in
@@ -204,7 +205,7 @@ module _ {ks ws : List ℕ} {at : ℕ} (g : TypeGiven ks ws at) where
         )
 
     -- a record
-    pub record_entered : get_or ks at 0 ≡ 5 → DeclaredType pack number first ds (set sc (get_or ws at 0 + 512) (at + 1)) nums known' o n m o₁
+    pub record_entered : get_or ks at 0 ≡ 5 → DeclaredType pack number ds (set sc (get_or ws at 0 + 512) (at + 1)) nums known' o o₁
     unfolding variants_in
     record_entered k =
         let w : ℕ = get_or ws at 0 in
@@ -220,9 +221,9 @@ module _ {ks ws : List ℕ} {at : ℕ} (g : TypeGiven ks ws at) where
         )
 
     -- an enum, once its variants are entered
-    pub enum_entered : (N : EnumHere (records g.model) at g.d) {sc' o₂ : List ℕ} {k : ℕ}
-        → Tables (records g.model) (aliases_of ds) (records_of ds) (variants_of ds ++ map (λ v. (v, decl_name g.d)) N.vs) [] [] [] sc' × ((seen : List Name) → SameNames seen (map (λ e. e.0) (variants_of ds)) → Reports g.model.number first (repeated_variants number seen N.vs) o₁ m k o₂)
-        → DeclaredType pack number first ds sc' nums known' o n k o₂
+    pub enum_entered : (N : EnumHere (records g.model) at g.d) {sc' : List ℕ} {o₂ : Lines}
+        → Tables (records g.model) (aliases_of ds) (records_of ds) (variants_of ds ++ map (λ v. (v, decl_name g.d)) N.vs) [] [] [] sc' × ((seen : List Name) → SameNames seen (map (λ e. e.0) (variants_of ds)) → Reports g.model.number (repeated_variants number seen N.vs) o₁ o₂)
+        → DeclaredType pack number ds sc' nums known' o o₂
     unfolding variants_in
     enum_entered N D =
         let G = enum_grown ds g.d (decl_name g.d) N.vs N.same in

@@ -16,6 +16,7 @@ use Rattle.lustre.specs.Answer.{place_number}
 use Rattle.lustre.specs.Report.{line, node_name_lines}
 use Rattle.lines.specs.Lines.{Noted}
 use Rattle.lines.specs.declared.Spot.{Spot}
+use Rattle.lines.specs.declared.Lines.{Lines}
 use Rattle.rules.specs.World.{HeadingAt}
 use Rattle.scope.specs.Model.{Model}
 use Rattle.scope.specs.Tables.{records, TablesOf, Declared}
@@ -41,7 +42,7 @@ titles ns = map (λ e. e.0) (map titled ns)
 
 -- The state of the pass at a record: the heads still to come, the constants and headings entered so far, the names of these, and how the
 -- lines of the nodes still to come complete the report.
-pub record Declaring {ks ws : List ℕ} (g : Model ks ws) (first : ℕ) (o₀ : List ℕ) (n at number m : ℕ) (sc o : List ℕ) : Type 0 where
+pub record Declaring {ks ws : List ℕ} (g : Model ks ws) (o₀ : Lines) (at number : ℕ) (sc : List ℕ) (o : Lines) : Type 0 where
   pub hs : List Head
   pub to_come : Meets g at hs
   pub cs : List Constant
@@ -51,11 +52,11 @@ pub record Declaring {ks ws : List ℕ} (g : Model ks ws) (first : ℕ) (o₀ : 
   pub tables : TablesOf (records g) (all_types (skeleton g.P)) cs ns [] sc
   pub seen : List Name
   pub same : SameNames seen (titles ns)
-  pub rest : {k : ℕ} {o' : List ℕ} → Reports g.number first (node_name_lines number seen (map heading (nodes_among hs))) o m k o' → Reports g.number first (node_name_lines 0 [] (all_nodes (skeleton g.P))) o₀ n k o'
+  pub rest : {o' : Lines} → Reports g.number (node_name_lines number seen (map heading (nodes_among hs))) o o' → Reports g.number (node_name_lines 0 [] (all_nodes (skeleton g.P))) o₀ o'
 
-module _ {ks ws : List ℕ} (g : Model ks ws) {first : ℕ} {o₀ : List ℕ} {n : ℕ} where
+module _ {ks ws : List ℕ} (g : Model ks ws) {o₀ : Lines} where
   -- nothing entered yet
-  pub declaring_start : {sc : List ℕ} → TablesOf (records g) (all_types (skeleton g.P)) [] [] [] sc → Declaring g first o₀ n 1 0 n sc o₀
+  pub declaring_start : {sc : List ℕ} → TablesOf (records g) (all_types (skeleton g.P)) [] [] [] sc → Declaring g o₀ 1 0 sc o₀
   unfolding mem
   declaring_start T = record {
     hs = heads g.P;
@@ -70,9 +71,9 @@ module _ {ks ws : List ℕ} (g : Model ks ws) {first : ℕ} {o₀ : List ℕ} {n
     rest = λ d. rw (headings_met g.P) at d;
   }
 
-  module _ {at number m : ℕ} {sc o : List ℕ} (d : Declaring g first o₀ n at number m sc o) where
+  module _ {at number : ℕ} {sc : List ℕ} {o : Lines} (d : Declaring g o₀ at number sc o) where
     -- a record that begins neither a constant nor a node
-    pub declaring_past : at < length ks → (get_or ks at 0 ≡ 9 → ⊥) → (10 ≤ get_or ks at 0 → get_or ks at 0 ≤ 12 → ⊥) → Declaring g first o₀ n (at + 1) number m sc o
+    pub declaring_past : at < length ks → (get_or ks at 0 ≡ 9 → ⊥) → (10 ≤ get_or ks at 0 → get_or ks at 0 ≤ 12 → ⊥) → Declaring g o₀ (at + 1) number sc o
     declaring_past l a b =
         let p = past g d.to_come l in
         record {
@@ -102,7 +103,7 @@ module _ {ks ws : List ℕ} (g : Model ks ws) {first : ℕ} {o₀ : List ℕ} {n
     node_name l a b = let c = node_here g d.to_come l a b in record { in_words = c.stands.head.in_words; small = c.stands.name.small }
 
     -- a constant
-    pub declaring_constant : at < length ks → get_or ks at 0 ≡ 9 → Declaring g first o₀ n (at + 1) number m (set sc (get_or ws at 0 + 1536) (at + 1)) o
+    pub declaring_constant : at < length ks → get_or ks at 0 ≡ 9 → Declaring g o₀ (at + 1) number (set sc (get_or ws at 0 + 1536) (at + 1)) o
     unfolding constants_among nodes_among
     declaring_constant l k =
         let c = constant_here g d.to_come l k in
@@ -122,9 +123,9 @@ module _ {ks ws : List ℕ} (g : Model ks ws) {first : ℕ} {o₀ : List ℕ} {n
         }
 
     -- a node, with the note of a name that the table has already
-    pub declaring_node : {m' : ℕ} {o' : List ℕ} {q : Spot} → at < length ks → 10 ≤ get_or ks at 0 → get_or ks at 0 ≤ 12 → Spotted q 4 number first
-        → Noted g.number q (if eqb (get_or sc (get_or ws at 0 + 2048) 0) 0 then [] else about 1 (g.text (get_or ws at 0)) ∷ []) o m m' o'
-        → Declaring g first o₀ n (at + 1) (number + 1) m' (set sc (get_or ws at 0 + 2048) (at + 1)) o'
+    pub declaring_node : {o' : Lines} {q : Spot} → at < length ks → 10 ≤ get_or ks at 0 → get_or ks at 0 ≤ 12 → Spotted q 4 number
+        → Noted g.number q (if eqb (get_or sc (get_or ws at 0 + 2048) 0) 0 then [] else about 1 (g.text (get_or ws at 0)) ∷ []) o o'
+        → Declaring g o₀ (at + 1) (number + 1) (set sc (get_or ws at 0 + 2048) (at + 1)) o'
     unfolding constants_among nodes_among heading place_number node_name_lines
     declaring_node l a b spot w =
         let c = node_here g d.to_come l a b in
@@ -152,7 +153,7 @@ module _ {ks ws : List ℕ} (g : Model ks ws) {first : ℕ} {o₀ : List ℕ} {n
         }
 
     -- every record has been looked at
-    pub declaring_done : length ks ≤ at → Declared g [] sc × Reports g.number first (node_name_lines 0 [] (all_nodes (skeleton g.P))) o₀ n m o
+    pub declaring_done : length ks ≤ at → Declared g [] sc × Reports g.number (node_name_lines 0 [] (all_nodes (skeleton g.P))) o₀ o
     unfolding constants_among nodes_among node_name_lines
     declaring_done l =
         let e = no_more g d.to_come l in

@@ -11,7 +11,9 @@ use Rattle.lustre.specs.Project.{Decl, Alias, Record, Enum, Package, decl_name, 
 use Rattle.lustre.specs.Resolve.{aliases_of, records_of, variants_of}
 use Rattle.lustre.specs.Report.{tagged, variants_in, type_lines, alias_numbers}
 use Rattle.demands.proofs.Sets.{mem_snoc}
+use Rattle.loops.specs.Rows.{has}
 use Rattle.standing.specs.Standing.{EachAt, PackageAt, package_size, list_size, sizes_of}
+use Rattle.lines.specs.declared.Lines.{Lines}
 use Rattle.scope.specs.Model.{Model}
 use Rattle.scope.specs.Tables.{records, TablesOf}
 use Rattle.scope.specs.Writes.{Reports}
@@ -73,7 +75,7 @@ module _ {ks ws : List ℕ} (g : Model ks ws) where
       go (p ∷ ps) e i = i.0.head.kind
 
   -- the types before are entered, and the lines of those to come, with their packages' numbers, complete the report
-  pub record Passing (first : ℕ) (o : List ℕ) (n : ℕ) (ts : List (ℕ × Decl)) (number : ℕ) (sc nums known o₁ : List ℕ) (m : ℕ) : Type 0 where
+  pub record Passing (o : Lines) (ts : List (ℕ × Decl)) (number : ℕ) (sc nums known : List ℕ) (o₁ : Lines) : Type 0 where
     pub done : List Decl
     pub count : length done ≡ number
     pub entered : Entered g done sc nums known
@@ -82,39 +84,39 @@ module _ {ks ws : List ℕ} (g : Model ks ws) where
     pub variants : List Name
     pub same_names : SameNames seen (map decl_name done)
     pub same_variants : SameNames variants (map (λ e. e.0) (variants_of done))
-    pub lines : (k : ℕ) (o' : List ℕ) → Reports g.number first (type_lines number seen variants ts) o₁ m k o' → Reports g.number first (type_lines 0 [] [] (tagged 0 (skeleton g.P))) o n k o'
+    pub lines : (o' : Lines) → Reports g.number (type_lines number seen variants ts) o₁ o' → Reports g.number (type_lines 0 [] [] (tagged 0 (skeleton g.P))) o o'
 
   -- nothing entered
-  entered_none : Entered g [] (replicate 3072 0) (replicate 512 0) (replicate 8 0)
+  entered_none : {known : List ℕ} → ((b : ℕ) → has known 0 b ≡ false) → Entered g [] (replicate 3072 0) (replicate 512 0) known
   unfolding aliases_of records_of variants_of alias_numbers
-  entered_none = record {
+  entered_none h = record {
     tables = tables_none (records g);
     numbers = row_zero g.text (λ p i. p ≡ i) 0 512 (omega arith);
-    names = holds_none g.text;
+    names = holds_none g.text h;
   }
 
-  module _ {first : ℕ} {o : List ℕ} {n : ℕ} where
+  module _ {o : Lines} where
     -- at the start
-    pub passing_start : {sc nums : List ℕ} → sc ≡ replicate 3072 0 → nums ≡ replicate 512 0 → Passing first o n (types_among 0 (heads g.P)) 0 sc nums (replicate 8 0) o n
+    pub passing_start : {sc nums known : List ℕ} → sc ≡ replicate 3072 0 → nums ≡ replicate 512 0 → ((b : ℕ) → has known 0 b ≡ false) → Passing o (types_among 0 (heads g.P)) 0 sc nums known o
     unfolding variants_of
-    passing_start a b = record {
+    passing_start a b h = record {
       done = [];
       count = refl;
-      entered = rw (a, b) entered_none;
+      entered = rw (a, b) (entered_none h);
       whole = sym (types_met g.P);
       seen = [];
       variants = [];
       same_names = λ x. refl;
       same_variants = λ x. refl;
-      lines = λ k o' d. rw (types_tagged 0 g.P) at d;
+      lines = λ o' d. rw (types_tagged 0 g.P) at d;
     }
 
     -- one type
-    pub passing_type : {sc nums known o₁ sc' nums' known' o₂ : List ℕ} {number m k : ℕ} (pack : ℕ) (d : Decl) (ts later : List (ℕ × Decl)) → ts ≡ (pack, d) ∷ later
-        → ((ds : List Decl) → length ds ≡ number → Entered g ds sc nums known → Entered g (ds ++ (d ∷ [])) sc' nums' known' × ((seen variants : List Name) → SameNames seen (map decl_name ds) → SameNames variants (map (λ e. e.0) (variants_of ds)) → Reports g.number first (one_type pack number seen variants d) o₁ m k o₂))
-        → Passing first o n ts number sc nums known o₁ m → Passing first o n later (number + 1) sc' nums' known' o₂ k
+    pub passing_type : {sc nums known sc' nums' known' : List ℕ} {o₁ o₂ : Lines} {number : ℕ} (pack : ℕ) (d : Decl) (ts later : List (ℕ × Decl)) → ts ≡ (pack, d) ∷ later
+        → ((ds : List Decl) → length ds ≡ number → Entered g ds sc nums known → Entered g (ds ++ (d ∷ [])) sc' nums' known' × ((seen variants : List Name) → SameNames seen (map decl_name ds) → SameNames variants (map (λ e. e.0) (variants_of ds)) → Reports g.number (one_type pack number seen variants d) o₁ o₂))
+        → Passing o ts number sc nums known o₁ → Passing o later (number + 1) sc' nums' known' o₂
     unfolding type_lines
-    passing_type {o₂ = o₂} {number = number} {k = k} pack d ts later e D p =
+    passing_type {number = number} pack d ts later e D p =
         let f = D p.done p.count p.entered in
         let z : number + 1 ≡ suc number = omega arith in
         record {
@@ -126,21 +128,21 @@ module _ {ks ws : List ℕ} (g : Model ks ws) where
           variants = variants_in d ++ p.variants;
           same_names = same_name p.seen p.done d p.same_names;
           same_variants = same_variants p.variants p.done d p.same_variants;
-          lines = λ j o' r.
-              p.lines j o'
+          lines = λ o' r.
+              p.lines o'
               (rw e
               (reports_append g.number (one_type pack number p.seen p.variants d) (type_lines (suc number) (decl_name d ∷ p.seen) (variants_in d ++ p.variants) later)
               (f.1 p.seen p.variants p.same_names p.same_variants) (rw z at r)));
         }
 
     -- at the end
-    pub passing_done : {sc nums known o₁ : List ℕ} {number m : ℕ} (ts : List (ℕ × Decl)) → ts ≡ [] → Passing first o n ts number sc nums known o₁ m
-        → TablesOf (records g) (all_types (skeleton g.P)) [] [] [] sc × Numbers g (all_types (skeleton g.P)) nums × Reports g.number first (type_lines 0 [] [] (tagged 0 (skeleton g.P))) o n m o₁
+    pub passing_done : {sc nums known : List ℕ} {o₁ : Lines} {number : ℕ} (ts : List (ℕ × Decl)) → ts ≡ [] → Passing o ts number sc nums known o₁
+        → TablesOf (records g) (all_types (skeleton g.P)) [] [] [] sc × Numbers g (all_types (skeleton g.P)) nums × Reports g.number (type_lines 0 [] [] (tagged 0 (skeleton g.P))) o o₁
     unfolding type_lines
-    passing_done {o₁ = o₁} {m = m} ts e p =
+    passing_done {o₁ = o₁} ts e p =
         let z : p.done ≡ all_types (skeleton g.P) = sym (append-nil p.done) ∙ rw e at p.whole in
         let E = rw z at p.entered in
-        (E.tables, E.numbers, p.lines m o₁ (rw e (reports_none g.number)))
+        (E.tables, E.numbers, p.lines o₁ (rw e (reports_none g.number)))
 
   -- before the first package nothing has been passed
   pub packaged : {i packages : ℕ} → (packages ≡ 0 → i ≡ 1) → i < length ks → (get_or ks i 0 ≡ 2 → ⊥) → packages ≡ 0 → ⊥

@@ -16,6 +16,7 @@ use Rattle.lustre.specs.Answer.{place_number}
 use Rattle.lustre.specs.Report.{line, repeated_variants}
 use Rattle.lines.specs.Lines.{Noted}
 use Rattle.lines.specs.declared.Spot.{Spot}
+use Rattle.lines.specs.declared.Lines.{Lines}
 use Rattle.standing.specs.Standing.{Source, EachAt, MentionAt, one_record, DeclAt, RecAt, NameAt, NamesAt}
 use Rattle.rules.specs.World.{EnumAt}
 use Rattle.scope.specs.Tables.{records, Tables}
@@ -87,34 +88,34 @@ module _ {ws : List ℕ} {at : ℕ} (g : EnumGiven ws at) where
       go (v ∷ later) e i = record { v = v; later = later; are = refl; mention = i.0; many = omega arith; items = i.1 }
 
   -- where these lists were entered before, the variants but those that are left are entered, and the lines of the rest complete the report
-  pub record Entering (number first : ℕ) (as' : List (Name × Ty)) (rs : List (Name × List Port)) (us : List (Name × Name)) (cs : List (Name × Ty)) (ns : List (Name × Heading)) (env : List Port) (o : List ℕ) (n : ℕ) (rest : List Name) (sc o₁ : List ℕ) (m : ℕ) : Type 0 where
+  pub record Entering (number : ℕ) (as' : List (Name × Ty)) (rs : List (Name × List Port)) (us : List (Name × Name)) (cs : List (Name × Ty)) (ns : List (Name × Heading)) (env : List Port) (o : Lines) (rest : List Name) (sc : List ℕ) (o₁ : Lines) : Type 0 where
     pub us₁ : List (Name × Name)
     pub tables : Tables here as' rs us₁ cs ns env sc
     pub whole : us₁ ++ map (λ v. (v, g.x)) rest ≡ us ++ map (λ v. (v, g.x)) g.vs
     pub lines : (seen : List Name) → SameNames seen (map (λ e. e.0) us)
         → (seen₁ : List Name) × SameNames seen₁ (map (λ e. e.0) us₁)
-        × ((k : ℕ) (o' : List ℕ) → Reports g.model.number first (repeated_variants number seen₁ rest) o₁ m k o' → Reports g.model.number first (repeated_variants number seen g.vs) o n k o')
+        × ((o' : Lines) → Reports g.model.number (repeated_variants number seen₁ rest) o₁ o' → Reports g.model.number (repeated_variants number seen g.vs) o o')
 
-  module _ {number first : ℕ} {as' : List (Name × Ty)} {rs : List (Name × List Port)} {us : List (Name × Name)} {cs : List (Name × Ty)} {ns : List (Name × Heading)} {env : List Port} {o : List ℕ} {n : ℕ} where
+  module _ {number : ℕ} {as' : List (Name × Ty)} {rs : List (Name × List Port)} {us : List (Name × Name)} {cs : List (Name × Ty)} {ns : List (Name × Heading)} {env : List Port} {o : Lines} where
     -- before the first variant
-    pub entering_start : {sc : List ℕ} → Tables here as' rs us cs ns env sc → Entering number first as' rs us cs ns env o n g.vs sc o n
-    entering_start {sc} T = record { us₁ = us; tables = T; whole = refl; lines = λ seen h. (seen, h, λ k o' d. d) }
+    pub entering_start : {sc : List ℕ} → Tables here as' rs us cs ns env sc → Entering number as' rs us cs ns env o g.vs sc o
+    entering_start {sc} T = record { us₁ = us; tables = T; whole = refl; lines = λ seen h. (seen, h, λ o' d. d) }
 
     -- behind the last
-    pub entering_done : {sc o₁ : List ℕ} {m : ℕ} (rest : List Name) → rest ≡ [] → Entering number first as' rs us cs ns env o n rest sc o₁ m
-        → Tables here as' rs (us ++ map (λ v. (v, g.x)) g.vs) cs ns env sc × ((seen : List Name) → SameNames seen (map (λ e. e.0) us) → Reports g.model.number first (repeated_variants number seen g.vs) o n m o₁)
+    pub entering_done : {sc : List ℕ} {o₁ : Lines} (rest : List Name) → rest ≡ [] → Entering number as' rs us cs ns env o rest sc o₁
+        → Tables here as' rs (us ++ map (λ v. (v, g.x)) g.vs) cs ns env sc × ((seen : List Name) → SameNames seen (map (λ e. e.0) us) → Reports g.model.number (repeated_variants number seen g.vs) o o₁)
     unfolding repeated_variants
-    entering_done {sc} {o₁} {m} rest e E =
+    entering_done {sc} {o₁} rest e E =
         let z : E.us₁ ≡ us ++ map (λ v. (v, g.x)) g.vs = sym (append-nil E.us₁) ∙ rw e at E.whole in
-        (rw z at E.tables, λ seen h. (let l = E.lines seen h in l.2 m o₁ (rw e (reports_none g.model.number))))
+        (rw z at E.tables, λ seen h. (let l = E.lines seen h in l.2 o₁ (rw e (reports_none g.model.number))))
 
     -- one variant
-    pub entering_next : {sc sc' o₁ o₂ : List ℕ} {m k : ℕ} {q : Spot} (w : ℕ) (x : Name) (rest later : List Name) → rest ≡ x ∷ later → w < 512 → here.text w ≡ x → Spotted q 1 number first
-        → Noted g.model.number q (if eqb (get_or sc (w + 1024) 0) 0 then [] else about 7 (here.text w) ∷ []) o₁ m k o₂
+    pub entering_next : {sc sc' : List ℕ} {o₁ o₂ : Lines} {q : Spot} (w : ℕ) (x : Name) (rest later : List Name) → rest ≡ x ∷ later → w < 512 → here.text w ≡ x → Spotted q 1 number
+        → Noted g.model.number q (if eqb (get_or sc (w + 1024) 0) 0 then [] else about 7 (here.text w) ∷ []) o₁ o₂
         → sc' ≡ set sc (w + 1024) (at + 1)
-        → Entering number first as' rs us cs ns env o n rest sc o₁ m → Entering number first as' rs us cs ns env o n later sc' o₂ k
+        → Entering number as' rs us cs ns env o rest sc o₁ → Entering number as' rs us cs ns env o later sc' o₂
     unfolding repeated_variants place_number
-    entering_next {sc} {sc'} {o₁} {o₂} {m} {k} w x rest later e' small named s d is E =
+    entering_next {sc} {sc'} {o₁} {o₂} w x rest later e' small named s d is E =
         let v : Name = here.text w in
         let e : rest ≡ v ∷ later = e' ∙ ap (λ (y : Name). y ∷ later) (sym named) in
         record {
@@ -126,7 +127,7 @@ module _ {ws : List ℕ} {at : ℕ} (g : EnumGiven ws at) where
               let b : eqb (get_or sc (w + 1024) 0) 0 ≡ not (v among l.0) = found_among v E.us₁ (E.tables.variant w small) ∙ ap not (sym (l.1 v)) in (
                 v ∷ l.0,
                 same_snoc v g.x l.0 E.us₁ l.1,
-                λ j o' f. l.2 j o' (rw e (reports_append g.model.number (if v among l.0 then line at_enum number (about 7 v) ∷ [] else []) (repeated_variants number (v ∷ l.0) later) (repeated_entry at_enum 7 v (v among l.0) (eqb (get_or sc (w + 1024) 0) 0) b s d) f)),
+                λ o' f. l.2 o' (rw e (reports_append g.model.number (if v among l.0 then line at_enum number (about 7 v) ∷ [] else []) (repeated_variants number (v ∷ l.0) later) (repeated_entry at_enum 7 v (v among l.0) (eqb (get_or sc (w + 1024) 0) 0) b s d) f)),
               );
         }
 

@@ -6,240 +6,170 @@
 ghost use Rattle.std.specs.Prelude.{ℕ, ◌+◌, ◌<◌, ◌≤◌, ◌≡◌, List, [], ◌∷◌, ◌++◌, map, length, replicate};
 ghost use Rattle.lustre.specs.Name.{Name, set_of};
 ghost use Rattle.lustre.specs.Types.{Ty};
-ghost use Rattle.lustre.specs.Project.{Port, Decl, Enum, Heading, decl_name, skeleton, all_types, all_nodes};
+ghost use Rattle.lustre.specs.Project.{Port, Decl, Heading, decl_name, skeleton, all_types, all_nodes};
 ghost use Rattle.lustre.specs.Resolve.{context, variants_of};
-ghost use Rattle.lustre.specs.Report.{tagged, repeated_variants, type_lines, alias_numbers, alias_line, alias_lines, node_name_lines};
-ghost use Rattle.input.specs.Depths.{ShallowDecl};
-ghost use Rattle.standing.specs.Standing.{DeclAt};
+ghost use Rattle.lustre.specs.Report.{tagged, repeated_variants, type_lines, alias_numbers, alias_lines, node_name_lines};
 ghost use Rattle.scope.specs.Model.{Model};
-ghost use Rattle.scope.specs.Tables.{records, Tables, TablesOf, Declared};
+ghost use Rattle.scope.specs.Tables.{records as of_model, Tables, TablesOf, Declared};
 ghost use Rattle.scope.specs.Writes.{Reports};
 ghost use Rattle.tables.specs.Entered.{SameNames, EnumGiven, TypeGiven, Numbers, Entered, one_type, TypesHere, TypesTabled, one_alias, AliasesBelow};
 
-use lines::{Spot, put_line};
-use lustre::{AT_ENUM, AT_NODE, AT_PACKAGE, AT_TYPE, NONE, codes};
-use scope::{CONSTANTS, NODES, RECORDS, VARIANTS, redeclare, repeated_name};
-use types::aliases::resolves;
-
-// The kinds of declarations, as document 01 numbers them.
-const PACKAGE: u8 = 2;
-
-const ALIAS: u8 = 4;
-
-const RECORD: u8 = 5;
-
-const ENUM: u8 = 6;
-
-const CONSTANT: u8 = 9;
-
-const FUNCTION: u8 = 10;
-
-const IMPORTED: u8 = 12;
-
-// A spot with no equation.
-fn spot(place: u64, number: u64, first: u64) -> Spot
-    ensures { (result.place ≡ place) × (result.number ≡ number) × (result.equation ≡ 18_446_744_073_709_551_615) × (result.first ≡ first) }
-{
-    Spot {
-        place,
-        number,
-        equation: NONE,
-        first,
-        function: false,
-    }
-}
+use lines::{Lines, Spot};
+use loops::NameSet;
+use lustre::{AT_ENUM, AT_NODE, AT_PACKAGE, AT_TYPE, NONE, Records, codes, kinds};
+use scope::{redeclare, repeated_name};
+use types::{Context, Scope};
 
 // Enters the variants of the enum at a record, with a line for each that has been declared before: E0007. `number` is the enum's.
-fn declare_variants(
-    words: &[u64],
-    scope: &mut [u64],
-    at: usize,
-    number: u64,
-    first: u64,
-    out: &mut [u64],
-    n: u64,
-) -> u64
-    requires { EnumGiven words.now at × (length scope.old ≡ 3072) }
-    ensures { ((g : EnumGiven words.now at) (as' : List (Name × Ty)) (rs : List (Name × List Port)) (us : List (Name × Name)) (cs : List (Name × Ty)) (ns : List (Name × Heading)) (env : List Port) → Tables (records g.model) as' rs us cs ns env scope.old → Tables (records g.model) as' rs (us ++ map (λ v. (v, g.x)) g.vs) cs ns env scope.new × ((seen : List Name) → SameNames seen (map (λ e. e.0) us) → Reports g.model.number first (repeated_variants number seen g.vs) out.old n result out.new)) × (length scope.new ≡ 3072) }
+fn declare_variants(words: &[u64], scope: &mut Scope, at: usize, number: u64, lines: &mut Lines)
+    requires { EnumGiven words.now at }
+    ensures { (g : EnumGiven words.now at) (as' : List (Name × Ty)) (rs : List (Name × List Port)) (us : List (Name × Name)) (cs : List (Name × Ty))
+        (ns : List (Name × Heading)) (env : List Port) → Tables (of_model g.model) as' rs us cs ns env scope.old.entries →
+        Tables (of_model g.model) as' rs (us ++ map (λ v. (v, g.x)) g.vs) cs ns env scope.new.entries × ((seen : List Name) →
+        SameNames seen (map (λ e. e.0) us) → Reports g.model.number (repeated_variants number seen g.vs) lines.old lines.new) }
 {
-    let q = spot(AT_ENUM, number, first);
-    let mut left = words[at + 1];
+    let q = Spot::about(AT_ENUM, number);
     let mut next = at + 2;
-    let mut m = n;
-    while left > 0 {
-        m = redeclare(scope, VARIANTS, words[next], at, codes::E0007, q, out, m);
+    for _ in 0..words[at + 1] {
+        redeclare(
+            scope,
+            Scope::VARIANTS,
+            words[next],
+            at,
+            codes::E0007,
+            q,
+            lines,
+        );
         next += 1;
-        left -= 1;
     }
-    m
 }
 
 // Enters the type at a record, of a package, with a line where its name has been declared before: E0006. `number` is the type's, and
 // `numbers` has 1 and the number of the alias in force, by name number.
 fn declare_type(
-    kinds: &[u8],
-    words: &[u64],
-    scope: &mut [u64],
+    records: &Records,
+    scope: &mut Scope,
     numbers: &mut [u64],
-    names: &mut [u64],
+    names: &mut NameSet,
     at: usize,
     pack: u64,
     number: u64,
-    first: u64,
-    out: &mut [u64],
-    n: u64,
-) -> u64
-    requires { TypeGiven kinds.now words.now at × (length scope.old ≡ 3072) × (length numbers.old ≡ 512) × (8 ≤ length names.old) × (number < 4096) }
-    ensures { (g : TypeGiven kinds.now words.now at) (ds : List Decl) → length ds ≡ number → Entered g.model ds scope.old numbers.old names.old → Entered g.model (ds ++ (g.d ∷ [])) scope.new numbers.new names.new × ((seen variants : List Name) → SameNames seen (map decl_name ds) → SameNames variants (map (λ e. e.0) (variants_of ds)) → Reports g.model.number first (one_type pack number seen variants g.d) out.old n result out.new) }
+    lines: &mut Lines,
+)
+    requires stands { TypeGiven records.now.kinds.now records.now.words.now at }
+    requires room { length numbers.old ≡ 512 }
+    requires few { number < 4096 }
+    ensures { (g : TypeGiven records.now.kinds.now records.now.words.now at) (ds : List Decl) → length ds ≡ number →
+        Entered g.model ds scope.old.entries numbers.old names.old.bits →
+        Entered g.model (ds ++ (g.d ∷ [])) scope.new.entries numbers.new names.new.bits × ((seen variants : List Name) →
+        SameNames seen (map decl_name ds) → SameNames variants (map (λ e. e.0) (variants_of ds)) →
+        Reports g.model.number (one_type pack number seen variants g.d) lines.old lines.new) }
 {
-    let name = words[at];
-    let q = spot(AT_PACKAGE, pack, first);
-    let m = repeated_name(names, name, codes::E0006, q, out, n);
-    let k = kinds[at];
+    let name = records.words[at];
+    repeated_name(
+        names,
+        name,
+        codes::E0006,
+        Spot::about(AT_PACKAGE, pack),
+        lines,
+    );
     let i = name as usize;
-    if k == ALIAS {
-        scope[i] = at as u64 + 1;
-        numbers[i] = number + 1;
-        return m;
+    match records.kinds[at] {
+        kinds::ALIAS => {
+            scope.entries[i + Scope::ALIASES] = at as u64 + 1;
+            numbers[i] = number + 1;
+        }
+        kinds::RECORD => scope.entries[i + Scope::RECORDS] = at as u64 + 1,
+        _ => declare_variants(records.words, scope, at, number, lines),
     }
-    if k == RECORD {
-        scope[i + RECORDS] = at as u64 + 1;
-        return m;
-    }
-    declare_variants(words, scope, at, number, first, out, m)
 }
 
 // Enters every type, in one pass, with E0006 and E0007 as met, lib.rs 138.
-pub fn declare_types(
-    kinds: &[u8],
-    words: &[u64],
-    scope: &mut [u64],
-    numbers: &mut [u64],
-    first: u64,
-    out: &mut [u64],
-    n: u64,
-) -> u64
-    requires { Model kinds.now words.now × (scope.old ≡ replicate 3072 0) × (numbers.old ≡ replicate 512 0) }
-    ensures { (g : Model kinds.now words.now) → TablesOf (records g) (all_types (skeleton g.P)) [] [] [] scope.new × Numbers g (all_types (skeleton g.P)) numbers.new × Reports g.number first (type_lines 0 [] [] (tagged 0 (skeleton g.P))) out.old n result out.new }
+pub fn declare_types(records: &Records, scope: &mut Scope, numbers: &mut [u64], lines: &mut Lines)
+    requires model { Model records.now.kinds.now records.now.words.now }
+    requires scope { scope.old.entries ≡ replicate 3072 0 }
+    requires numbers { numbers.old ≡ replicate 512 0 }
+    ensures { (g : Model records.now.kinds.now records.now.words.now) → TablesOf (of_model g) (all_types (skeleton g.P)) [] [] [] scope.new.entries ×
+        Numbers g (all_types (skeleton g.P)) numbers.new × Reports g.number (type_lines 0 [] [] (tagged 0 (skeleton g.P))) lines.old lines.new }
 {
-    let mut names = [0u64; 8];
-    let mut packages: u64 = 0;
-    let mut number: u64 = 0;
-    let mut m = n;
-    let mut i = 1;
-    while i < kinds.len() {
-        let at = i;
-        let k = kinds[at];
-        i += 1;
-        if k == PACKAGE {
-            packages += 1;
-            continue;
+    let mut names = NameSet::new();
+    let mut packages = 0;
+    let mut number = 0;
+    for at in 1..records.kinds.len() {
+        match records.kinds[at] {
+            kinds::PACKAGE => packages += 1,
+            kinds::ALIAS..=kinds::ENUM => {
+                declare_type(
+                    records,
+                    scope,
+                    numbers,
+                    &mut names,
+                    at,
+                    packages - 1,
+                    number,
+                    lines,
+                );
+                number += 1;
+            }
+            _ => {}
         }
-        if k < ALIAS {
-            continue;
-        }
-        if k > ENUM {
-            continue;
-        }
-        m = declare_type(
-            kinds,
-            words,
-            scope,
-            numbers,
-            &mut names,
-            at,
-            packages - 1,
-            number,
-            first,
-            out,
-            m,
-        );
-        number += 1;
     }
-    m
 }
 
 // A line where the alias of a name number does not resolve: E0008, at the declaration in force.
-fn check_alias(
-    kinds: &[u8],
-    words: &[u64],
-    scope: &[u64],
-    numbers: &[u64],
-    name: u64,
-    first: u64,
-    out: &mut [u64],
-    n: u64,
-) -> u64
-    requires { TypesHere kinds.now words.now scope.now numbers.now × (name < 512) }
-    ensures { (g : TypesHere kinds.now words.now scope.now numbers.now) → Reports g.model.number first (one_alias g.model (g.model.text name)) out.old n result out.new }
+fn check_alias(ctx: &Context, numbers: &[u64], name: u64, lines: &mut Lines)
+    requires types { TypesHere ctx.now.records.kinds.now ctx.now.records.words.now ctx.now.scope.now.entries numbers.now }
+    requires small { name < 512 }
+    ensures { (g : TypesHere ctx.now.records.kinds.now ctx.now.records.words.now ctx.now.scope.now.entries numbers.now) →
+        Reports g.model.number (one_alias g.model (g.model.text name)) lines.old lines.new }
 {
     let e = numbers[name as usize];
-    if e == 0 {
-        return n;
+    if e != 0 && !ctx.resolves(name) {
+        let q = Spot::about(AT_TYPE, e - 1);
+        lines.put(q, codes::E0008, NONE, name);
     }
-    if resolves(kinds, words, scope, name) {
-        return n;
-    }
-    let q = spot(AT_TYPE, e - 1, first);
-    put_line(out, q, n, codes::E0008, NONE, name)
 }
 
 // The lines of the aliases that do not resolve, in name order, lib.rs 163.
-pub fn check_aliases(
-    kinds: &[u8],
-    words: &[u64],
-    scope: &[u64],
-    numbers: &[u64],
-    names: u64,
-    first: u64,
-    out: &mut [u64],
-    n: u64,
-) -> u64
-    requires { TypesHere kinds.now words.now scope.now numbers.now × (names ≤ 512) }
-    ensures { (g : TypesHere kinds.now words.now scope.now numbers.now) → g.model.names ≡ names → AliasesBelow kinds.now words.now names → let s = skeleton g.model.P in let ns = alias_numbers 0 (all_types s) in Reports g.model.number first (alias_lines (context s) ns (set_of (map (λ e. e.0) ns))) out.old n result out.new }
+pub fn check_aliases(ctx: &Context, numbers: &[u64], names: u64, lines: &mut Lines)
+    requires types { TypesHere ctx.now.records.kinds.now ctx.now.records.words.now ctx.now.scope.now.entries numbers.now }
+    requires few { names ≤ 512 }
+    ensures { (g : TypesHere ctx.now.records.kinds.now ctx.now.records.words.now ctx.now.scope.now.entries numbers.now) → g.model.names ≡ names →
+        AliasesBelow ctx.now.records.kinds.now ctx.now.records.words.now names → let s = skeleton g.model.P in let ns = alias_numbers 0 (all_types s) in
+        Reports g.model.number (alias_lines (context s) ns (set_of (map (λ e. e.0) ns))) lines.old lines.new }
 {
-    let mut name: u64 = 0;
-    let mut m = n;
-    while name < names {
-        m = check_alias(kinds, words, scope, numbers, name, first, out, m);
-        name += 1;
+    for name in 0..names {
+        check_alias(ctx, numbers, name, lines);
     }
-    m
 }
 
 // Enters every constant and node, in one pass, with E0001 at each later node of a name, lib.rs 174.
-pub fn declare_nodes(
-    kinds: &[u8],
-    words: &[u64],
-    scope: &mut [u64],
-    first: u64,
-    out: &mut [u64],
-    n: u64,
-) -> u64
-    requires { TypesTabled kinds.now words.now scope.old }
-    ensures { (g : TypesTabled kinds.now words.now scope.old) → Declared g.model [] scope.new × Reports g.model.number first (node_name_lines 0 [] (all_nodes (skeleton g.model.P))) out.old n result out.new }
+pub fn declare_nodes(records: &Records, scope: &mut Scope, lines: &mut Lines)
+    requires { TypesTabled records.now.kinds.now records.now.words.now scope.old.entries }
+    ensures { (g : TypesTabled records.now.kinds.now records.now.words.now scope.old.entries) → Declared g.model [] scope.new.entries ×
+        Reports g.model.number (node_name_lines 0 [] (all_nodes (skeleton g.model.P))) lines.old lines.new }
 {
-    let mut number: u64 = 0;
-    let mut m = n;
-    let mut i = 1;
-    while i < kinds.len() {
-        let at = i;
-        let k = kinds[at];
-        i += 1;
-        if k == CONSTANT {
-            let c = words[at] as usize;
-            scope[c + CONSTANTS] = at as u64 + 1;
-            continue;
+    let mut number = 0;
+    for at in 1..records.kinds.len() {
+        match records.kinds[at] {
+            kinds::CONSTANT => {
+                let i = records.words[at] as usize + Scope::CONSTANTS;
+                scope.entries[i] = at as u64 + 1;
+            }
+            kinds::FUNCTION..=kinds::IMPORTED => {
+                let q = Spot::about(AT_NODE, number);
+                redeclare(
+                    scope,
+                    Scope::NODES,
+                    records.words[at],
+                    at,
+                    codes::E0001,
+                    q,
+                    lines,
+                );
+                number += 1;
+            }
+            _ => {}
         }
-        if k < FUNCTION {
-            continue;
-        }
-        if k > IMPORTED {
-            continue;
-        }
-        let q = spot(AT_NODE, number, first);
-        m = redeclare(scope, NODES, words[at], at, codes::E0001, q, out, m);
-        number += 1;
     }
-    m
 }

@@ -10,10 +10,11 @@ use native.Mathlib.Nat.{add-zero}
 use lib.Dec.{eqb, ltb}
 use lib.ListN.{length, get_or, set, drop, drop_of_length-le}
 use lib.Seq.{drop-cons}
+use Rattle.std.specs.List.{prefix_len}
 use borrow.Author.Tests.{eq-eqb, ne_eqb, ltb-true, eqb-true, eqb-false}
 use Rattle.lustre.specs.Types.{Array, levels}
 use Rattle.types.specs.Value.{Naming, bottom, up, asTy}
-use Rattle.types.specs.Place.{arraysIn, standsIn, ty_of, ty_at, IsTypeAt, Read}
+use Rattle.types.specs.Place.{arraysIn, standsIn, ty_of, ty_at, IsTypeAt, Last, Read}
 use Rattle.types.specs.declared.Typ.{Typ}
 use Rattle.types.proofs.Truths.{never, and_both}
 use Rattle.types.proofs.Values.{levels_as, up_push}
@@ -94,6 +95,15 @@ module _ (ks ws : List ℕ) (at : ℕ) (p : IsTypeAt ks ws at) where
   kind_bottom : arraysIn (drop at ks) ≡ 0 → get_or ks at 0 ≡ 32 → ⊥
   kind_bottom z k = omega (arith, arrays_array k, z)
 
+suc_is : (n : ℕ) → 1 + n ≡ suc n
+suc_is n = omega arith
+
+-- the arrays are the first kinds that are 32
+pub arrays_first : (ks : List ℕ) → prefix_len (λ k. eqb k 32) ks ≡ arraysIn ks
+unfolding arraysIn
+arrays_first [] = refl
+arrays_first (k ∷ ks) = rw (arrays_first ks, suc_is (arraysIn ks))
+
 -- past i of the arrays at a place stands a type with the others
 record Later (ks ws : List ℕ) (at i j : ℕ) : Type 0 where
   pub there : IsTypeAt ks ws j
@@ -129,20 +139,24 @@ module _ (ks ws : List ℕ) (at : ℕ) (p : IsTypeAt ks ws at) where
     last_there : IsTypeAt ks ws last
     last_there = (later last (omega arith) (omega arith)).there
 
+    pub last_in : Last ks ws at last
+    last_in = record { behind = e; in_kinds = in_kinds ks ws last last_there; in_words = in_words ks ws last last_there }
+
     last_kind : get_or ks last 0 ≡ 32 → ⊥
     last_kind = kind_bottom ks ws last last_there (omega (arith, (later last (omega arith) (omega arith)).left))
 
     pub last_type : (ρ : Naming) → ty_at ρ ks ws last ≡ bottom ρ (get_or ks last 0) (get_or ws last 0)
     last_type = type_bottom ks ws last last_there last_kind
 
-    -- the lengths that `read_type` has read, from j on and from one before on
-    pub read_more : (l : List ℕ) (k j : ℕ) → k < length l → at < j → j ≤ last →
-        ((ρ : Naming) → up l k (bottom ρ (get_or ks last 0) (get_or ws last 0)) ≡ ty_at ρ ks ws j) →
-        (ρ : Naming) → up (set l k (get_or ws (j - 1) 0)) (k + 1) (bottom ρ (get_or ks last 0) (get_or ws last 0)) ≡ ty_at ρ ks ws (j - 1)
-    read_more l k j h lo hi f ρ =
-        let q : j - 1 + 1 ≡ j = omega arith in
-        up_push l k (get_or ws (j - 1) 0) _ h ∙ ap (Array (get_or ws (j - 1) 0)) (f ρ)
-        ∙ sym (rw q at (inner_type ρ (j - 1) (omega arith) (omega arith)))
+    -- the lengths that `read_type` has read, i of them and one more
+    pub read_more : (l : List ℕ) (i : ℕ) → i < length l → i < last - at →
+        ((ρ : Naming) → up l i (bottom ρ (get_or ks last 0) (get_or ws last 0)) ≡ ty_at ρ ks ws (last - i)) →
+        (ρ : Naming) → up (set l i (get_or ws (last - 1 - i) 0)) (i + 1) (bottom ρ (get_or ks last 0) (get_or ws last 0)) ≡ ty_at ρ ks ws (last - (i + 1))
+    read_more l i h k f ρ =
+        let j : last - 1 - i ≡ last - (i + 1) = omega arith in
+        let q : last - (i + 1) + 1 ≡ last - i = omega arith in
+        rw j (up_push l i (get_or ws (last - (i + 1)) 0) _ h ∙ ap (Array (get_or ws (last - (i + 1)) 0)) (f ρ)
+        ∙ sym (rw q at (inner_type ρ (last - (i + 1)) (omega arith) (omega arith))))
 
     -- what `read_type` has read
     pub read_all : {t : Typ} → t.base ≡ get_or ks last 0 → t.name ≡ get_or ws last 0 → t.levels + at ≡ last →

@@ -1,8 +1,10 @@
 -- Laws of resolution: k arrays around a type resolve to the arrays around what the type gives with k levels fewer, and one law for each
 -- way that `try_resolve` and `resolve` go. Assumes nothing.
+use Rattle.std.specs.Prelude as code
+use Rattle.std.specs.Prelude.{Some, None}
+use Rattle.std.specs.Option.{unwrap_or}
 use Prim.Native.Nat.{ℕ, zero, suc, ◌+◌, ◌-◌, ◌≤◌, ◌<◌}
 use mathlib.Core.Path.{◌≡◌, refl, ap, sym, ◌∙◌}
-use mathlib.Core.Bool.{Bool, true, false}
 use mathlib.Core.List.{List}
 use mathlib.Core.Option.{Option, none, some}
 use native.Mathlib.Omega.{arith}
@@ -10,11 +12,10 @@ use lib.ListN.{get_or}
 use borrow.Author.Tests.{eq-eqb, ne_eqb}
 use Rattle.lustre.specs.Types.{Ty}
 use Rattle.lustre.specs.Resolve.{Aliases, array_of, follow_alias, or_itself, resolve}
-use Rattle.types.specs.Value.{Naming, bottom, up, asTy, maybe, Known, Around}
+use Rattle.types.specs.Value.{Naming, bottom, up, asTy, Known, Around}
 use Rattle.types.specs.Place.{ty_at, Read}
 use Rattle.types.specs.Scope.{slot, target, Table, Tries, Resolves}
 use Rattle.types.specs.declared.Typ.{Typ}
-use Rattle.types.proofs.Truths.{never}
 use Rattle.types.proofs.Values.{bottom_cases, bottom_name}
 use Rattle.types.proofs.Seen.{by_depth, try_depth, resolve_depth}
 
@@ -88,48 +89,47 @@ pub record Trying (ks ws sc : List ℕ) (t u : Typ) (d : ℕ) : Type 0 where
   pub is : (ρ : Naming) (al : Aliases) → Table ρ al ks ws sc → by_depth al 65 (asTy ρ t) ≡ wrapped u.lengths u.levels (by_depth al (65 - d) (bottom ρ u.base u.name))
 
 module _ {ks ws sc : List ℕ} (t : Typ) where
-  fails : ((ρ : Naming) (al : Aliases) → Table ρ al ks ws sc → by_depth al 65 (asTy ρ t) ≡ none) → Tries ks ws sc t false t
-  unfolding maybe
-  fails h = record { few = λ e. absurd (never e); known = λ k. k; is = λ ρ al T. sym (try_depth al (asTy ρ t) ∙ h ρ al T) }
+  fails : ((ρ : Naming) (al : Aliases) → Table ρ al ks ws sc → by_depth al 65 (asTy ρ t) ≡ none) → Tries ks ws sc t None
+  fails h = record { few = tt; known = λ k. tt; is = λ ρ al T. sym (try_depth al (asTy ρ t) ∙ h ρ al T) }
 
-  pub too_long : 64 < t.levels → Tries ks ws sc t false t
+  pub too_long : 64 < t.levels → Tries ks ws sc t None
   too_long h = fails (λ ρ al T. type_around al ρ t 65 ∙ wrap_none t.lengths t.levels (no_levels al (65 - t.levels) _ (omega arith)))
 
   pub try_starts : t.levels ≤ 64 → Trying ks ws sc t t t.levels
   try_starts h = record { low = h; few = omega arith; known = λ k. k; is = λ ρ al T. type_around al ρ t 65 }
 
   module _ {u : Typ} {d : ℕ} (q : Trying ks ws sc t u d) where
-    ends : ((ρ : Naming) (al : Aliases) → Table ρ al ks ws sc → (f : ℕ) → by_depth al (suc f) (bottom ρ u.base u.name) ≡ some (bottom ρ u.base u.name)) → Tries ks ws sc t true u
-    unfolding maybe wrapped asTy
+    ends : ((ρ : Naming) (al : Aliases) → Table ρ al ks ws sc → (f : ℕ) → by_depth al (suc f) (bottom ρ u.base u.name) ≡ some (bottom ρ u.base u.name)) → Tries ks ws sc t (Some u)
+    unfolding wrapped asTy
     ends h = record {
-      few = λ e. omega (arith, q.few, q.low);
+      few = omega (arith, q.few, q.low);
       known = q.known;
       is = λ ρ al T.
           let e : 65 - d ≡ suc (64 - d) = omega (arith, q.low) in
           sym (try_depth al (asTy ρ t) ∙ q.is ρ al T ∙ rw e (ap (wrapped u.lengths u.levels) (h ρ al T (64 - d))));
     }
 
-    pub basic_ends : (u.base ≡ 33 → ⊥) → Tries ks ws sc t true u
+    pub basic_ends : (u.base ≡ 33 → ⊥) → Tries ks ws sc t (Some u)
     basic_ends h = ends (λ ρ al T. basic_stays ks ws sc ρ al T u.base u.name h)
 
-    pub name_ends : u.base ≡ 33 → slot sc u.name ≡ 0 → Tries ks ws sc t true u
+    pub name_ends : u.base ≡ 33 → slot sc u.name ≡ 0 → Tries ks ws sc t (Some u)
     name_ends h z = ends (λ ρ al T. name_stays ks ws sc ρ al T u.base u.name h z)
 
     module _ {i : Typ} {at next : ℕ} (h : u.base ≡ 33) (e : at ≡ slot sc u.name) (z : at ≡ 0 → ⊥) (r : Read ks ws at i next) where
       leads : (ρ : Naming) (al : Aliases) → Table ρ al ks ws sc →
-          by_depth al 65 (asTy ρ t) ≡ wrapped u.lengths u.levels (wrapped i.lengths i.levels (by_depth al (65 - (d + 1 + i.levels)) (bottom ρ i.base i.name)))
+          by_depth al 65 (asTy ρ t) ≡ wrapped u.lengths u.levels (wrapped i.lengths i.levels (by_depth al (65 - (d + (1 + i.levels))) (bottom ρ i.base i.name)))
       leads ρ al T =
           let f : 65 - d ≡ suc (64 - d) = omega (arith, q.low) in
-          let g : 65 - (d + 1 + i.levels) ≡ 64 - d - i.levels = omega arith in
+          let g : 65 - (d + (1 + i.levels)) ≡ 64 - d - i.levels = omega arith in
           q.is ρ al T ∙ ap (wrapped u.lengths u.levels)
           (rw f (name_leads ks ws sc ρ al T u.base u.name h (λ y. z (e ∙ y)) (64 - d))
           ∙ ap (by_depth al (64 - d)) (sym (rw e at (r.is ρ)))
           ∙ rw g (type_around al ρ i (64 - d)))
 
-      pub runs_out : 64 < d + 1 + i.levels → Tries ks ws sc t false t
-      runs_out o = fails (λ ρ al T. leads ρ al T ∙ wrap_none u.lengths u.levels (wrap_none i.lengths i.levels (no_levels al (65 - (d + 1 + i.levels)) _ (omega arith))))
+      pub runs_out : 64 < d + (1 + i.levels) → Tries ks ws sc t None
+      runs_out o = fails (λ ρ al T. leads ρ al T ∙ wrap_none u.lengths u.levels (wrap_none i.lengths i.levels (no_levels al (65 - (d + (1 + i.levels))) _ (omega arith))))
 
-      pub enters : {v : Typ} → d + 1 + i.levels ≤ 64 → Around u i v → Trying ks ws sc t v (d + 1 + i.levels)
+      pub enters : {v : Typ} → d + (1 + i.levels) ≤ 64 → Around u i v → Trying ks ws sc t v (d + (1 + i.levels))
       enters o a = record {
         low = o;
         few = omega (arith, a.levels, q.few);
@@ -158,19 +158,7 @@ module _ {ks ws sc : List ℕ} (t : Typ) where
   pub name_resolved : t.base ≡ 33 → slot sc t.name ≡ 0 → Resolves ks ws sc t t
   name_resolved h z = stays (λ ρ al T. name_stays ks ws sc ρ al T t.base t.name h z)
 
-  module _ {ok : Bool} {r : Typ} (q : Tries ks ws sc t ok r) where
-    pub resolved : ok ≡ true → Resolves ks ws sc t r
-    unfolding maybe resolve or_itself
-    resolved o = record {
-      few = omega (arith, q.few o);
-      known = q.known;
-      is = λ ρ al T. ap (or_itself (asTy ρ t)) (rw o at (q.is ρ al T));
-    }
-
-    pub unresolved : ok ≡ false → Resolves ks ws sc t t
-    unfolding maybe resolve or_itself
-    unresolved o = record {
-      few = omega arith;
-      known = λ k. k;
-      is = λ ρ al T. ap (or_itself (asTy ρ t)) (rw o at (q.is ρ al T));
-    }
+  pub resolved_or : (r : code.Option Typ) → Tries ks ws sc t r → Resolves ks ws sc t (unwrap_or r t)
+  unfolding resolve or_itself
+  resolved_or (Some u) q = record { few = omega (arith, q.few); known = q.known; is = λ ρ al T. ap (or_itself (asTy ρ t)) (q.is ρ al T) }
+  resolved_or None q = record { few = omega arith; known = λ k. k; is = λ ρ al T. ap (or_itself (asTy ρ t)) (q.is ρ al T) }

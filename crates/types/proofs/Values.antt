@@ -9,8 +9,9 @@ use native.Mathlib.Omega.{arith}
 use native.Mathlib.Numerals.{add-one}
 use native.Mathlib.Nat.{pos_of_ne-zero}
 use lib.Dec.{eqb, leb}
-use lib.ListN.{length, get_or, set}
+use lib.ListN.{length, get_or, set, take}
 use lib.Seq.{get_or-set_same, get_or-set_other}
+use Rattle.std.proofs.lemmas.List.{get_or-take, take_more_same}
 use borrow.Author.Tests.{eq-eqb, ne_eqb, eqb-true, eqb-false}
 use Rattle.lustre.specs.Name.{◌is◌}
 use Rattle.lustre.specs.Types.{Ty, basic, Array, Named, Tuple, same_type, within, members, levels}
@@ -36,6 +37,10 @@ pub up_pop : (l : List ℕ) (k : ℕ) (t : Ty) → 0 < k → up l k t ≡ Array 
 unfolding up
 up_pop l zero t h = absurd (omega arith)
 up_pop l (suc k) t h = ap (λ (j : ℕ). Array (get_or l j 0) (up l j t)) (omega arith)
+
+-- lists that agree on their first k elements agree at each of them
+agree : (l l' : List ℕ) (k : ℕ) → take k l ≡ take k l' → (i : ℕ) → i < k → get_or l i 0 ≡ get_or l' i 0
+agree l l' k e i h = sym (get_or-take k l i 0 h) ∙ ap (λ (x : List ℕ). get_or x i 0) e ∙ get_or-take k l' i 0 h
 
 -- one more of t's lengths around u
 pub up_around : (l t u : List ℕ) (m i : ℕ) (s : Ty) → m + i < length l → up l (m + i) s ≡ up t i (up u m s) →
@@ -168,6 +173,8 @@ module _ (ρ : Naming) (a b m n : ℕ) where
       go true q = rw (eqb-true m n q) (is_test.self (ρ n))
       go false q = not_so (ρ m is ρ n) (λ s. eqb-false m n q (inj m n (is_test.same (ρ m) (ρ n) s)))
 
+pub ruleset bases = (bases_differ, bases_same, names_same, tuples_same)
+
 -- an array is no bottom
 module _ (ρ : Naming) (a m l : ℕ) (t : Ty) where
   bottom_array : same_type (bottom ρ a m) (Array l t) ≡ false
@@ -188,15 +195,10 @@ module _ (ρ : Naming) (l l' : List ℕ) (a b m n : ℕ) where
   levels_differ (suc k) (suc k') h = and_second (eqb (get_or l k 0) (get_or l' k' 0)) (levels_differ k k' (λ e. h (ap suc e)))
 
 module _ (l l' : List ℕ) (s t : Ty) where
-  length_differs : (k i : ℕ) → i < k → (get_or l i 0 ≡ get_or l' i 0 → ⊥) → same_type (up l k s) (up l' k t) ≡ false
-  unfolding same_type up
-  length_differs zero i h d = absurd (omega arith)
-  length_differs (suc k) i h d =
-      go (λ p. length_differs k i p d) (eqb i k) refl
-    where
-      go : (i < k → same_type (up l k s) (up l' k t) ≡ false) → (b : Bool) → eqb i k ≡ b → (eqb (get_or l k 0) (get_or l' k 0) && same_type (up l k s) (up l' k t)) ≡ false
-      go ih true e = rw (ne_eqb (get_or l k 0) (get_or l' k 0) (rw (eqb-true i k e) at d))
-      go ih false e = and_second (eqb (get_or l k 0) (get_or l' k 0)) (ih (omega (arith, eqb-false i k e)))
+  lengths_told : (k : ℕ) → k ≤ length l → k ≤ length l' → up l k s ≡ up l' k t → take k l ≡ take k l'
+  unfolding up
+  lengths_told zero h h' e = refl
+  lengths_told (suc k) h h' e = rw add-one at (take_more_same l l' k 0 (omega arith) (omega arith) (lengths_told k (omega arith) (omega arith) cc) cc)
 
   lengths_same : (k : ℕ) → ((i : ℕ) → i < k → get_or l i 0 ≡ get_or l' i 0) → same_type (up l k s) (up l' k t) ≡ same_type s t
   unfolding same_type up
@@ -210,11 +212,11 @@ module _ (ρ : Naming) (a b : Typ) where
   unfolding asTy
   types_levels h = levels_differ ρ a.lengths b.lengths a.base b.base a.name b.name a.levels b.levels h
 
-  pub types_length : a.levels ≡ b.levels → (i : ℕ) → i < a.levels → (get_or a.lengths i 0 ≡ get_or b.lengths i 0 → ⊥) → same_type (asTy ρ a) (asTy ρ b) ≡ false
-  unfolding asTy
-  types_length e i h d = rw (← e) (length_differs a.lengths b.lengths _ _ a.levels i h d)
+  module _ (e : a.levels ≡ b.levels) where
+    pub types_lengths : (take a.levels a.lengths ≡ take b.levels b.lengths → ⊥) → a.levels ≤ length a.lengths → a.levels ≤ length b.lengths → same_type (asTy ρ a) (asTy ρ b) ≡ false
+    unfolding asTy
+    types_lengths d h k = rw (← e) (not_so _ (λ s. (rw (← e) at d) (lengths_told a.lengths b.lengths _ _ a.levels h k (type_same _ _ s))))
 
-  pub types_same : a.levels ≡ b.levels → ((i : ℕ) → i < a.levels → get_or a.lengths i 0 ≡ get_or b.lengths i 0) →
-      same_type (asTy ρ a) (asTy ρ b) ≡ same_type (bottom ρ a.base a.name) (bottom ρ b.base b.name)
-  unfolding asTy
-  types_same e h = rw (← e) (lengths_same a.lengths b.lengths _ _ a.levels h)
+    pub types_same : take a.levels a.lengths ≡ take b.levels b.lengths → same_type (asTy ρ a) (asTy ρ b) ≡ same_type (bottom ρ a.base a.name) (bottom ρ b.base b.name)
+    unfolding asTy
+    types_same t = rw (← e) (lengths_same a.lengths b.lengths _ _ a.levels (agree a.lengths b.lengths a.levels (rw (← e) at t)))

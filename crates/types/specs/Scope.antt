@@ -1,13 +1,15 @@
 -- The aliases as the code has them: in the first 512 entries of the scope, by name number. An entry is 0 for no alias, else 1 and the
 -- number of the record that declares it, which is the place of the type behind that record.
 -- Assumes nothing: these are definitions.
-use Rattle.std.specs.Prelude.{ℕ, ◌+◌, ◌≤◌, max, ◌≡◌, Bool, true, false, List, [], eqb, ltb, length, get_or, if◌then◌else◌}
+use Rattle.std.specs.Prelude as code
+use Rattle.std.specs.Prelude.{ℕ, ◌+◌, ◌≤◌, max, ◌≡◌, Bool, true, false, List, [], eqb, ltb, length, get_or, if◌then◌else◌, Some, None, IfSome}
 use Rattle.std.proofs.Math.Option.{Option, none, some}
 use Rattle.lustre.specs.Types.{Ty, basic, Array, Named, Tuple}
 use Rattle.lustre.specs.Resolve.{Aliases, try_resolve, resolve, compatible}
 use Rattle.types.specs.Value.{Naming, Injective, bottom, asTy, maybe, Known}
 use Rattle.types.specs.Place.{IsTypeAt, ty_at}
 use Rattle.types.specs.declared.Typ.{Typ}
+use Rattle.types.specs.declared.Context.{Context}
 use Rattle.types.specs.declared.aliases.Followed.{Followed}
 
 -- the entry of a name number; no number from 512 on has an alias
@@ -27,11 +29,15 @@ pub record Targets (ks ws sc : List ℕ) : Type 0 where
   pub room : 512 ≤ length sc
   pub stand : (n : ℕ) → (slot sc n ≡ 0 → ⊥) → IsTypeAt ks ws (slot sc n)
 
+-- the same of the records and the scope of a context
+abbrev pub Led : Context → Type 0
+Led c = Targets c.records.kinds.now c.records.words.now c.scope.now.entries
+
 -- what `try_resolve` answers
-pub record Tries (ks ws sc : List ℕ) (t : Typ) (ok : Bool) (r : Typ) : Type 0 where
-  pub few : ok ≡ true → r.levels ≤ 64
-  pub known : Known t → Known r
-  pub is : (ρ : Naming) (al : Aliases) → Table ρ al ks ws sc → maybe ρ ok r ≡ try_resolve al 65 [] (asTy ρ t)
+pub record Tries (ks ws sc : List ℕ) (t : Typ) (r : code.Option Typ) : Type 0 where
+  pub few : IfSome r (λ u. u.levels ≤ 64)
+  pub known : Known t → IfSome r Known
+  pub is : (ρ : Naming) (al : Aliases) → Table ρ al ks ws sc → maybe ρ r ≡ try_resolve al 65 [] (asTy ρ t)
 
 -- what `resolve` answers
 pub record Resolves (ks ws sc : List ℕ) (t r : Typ) : Type 0 where
@@ -57,23 +63,24 @@ unfoldable pub shape : Option Ty → Option (ℕ × Ty)
 shape none = none
 shape (some t) = some (arrays t, inside t)
 
--- so many arrays around a base, where b holds
-unfoldable pub shaped : Naming → Bool → ℕ → ℕ → ℕ → Option (ℕ × Ty)
-shaped ρ b k base name = if b then some (k, bottom ρ base name) else none
+-- so many arrays around a base, where there is one
+abbrev pub shaped : Naming → code.Option Followed → Option (ℕ × Ty)
+shaped ρ None = none
+shaped ρ (Some f) = some (f.levels, bottom ρ f.base f.name)
 
 -- what `follow` answers: what name number n resolves to, but for its lengths
-pub record Follows (ks ws sc : List ℕ) (n : ℕ) (r : Followed) : Type 0 where
-  pub is : (ρ : Naming) (al : Aliases) → Table ρ al ks ws sc → shape (try_resolve al 65 [] (Named (ρ n))) ≡ shaped ρ r.ok r.levels r.base r.name
+pub record Follows (ks ws sc : List ℕ) (n : ℕ) (r : code.Option Followed) : Type 0 where
+  pub is : (ρ : Naming) (al : Aliases) → Table ρ al ks ws sc → shape (try_resolve al 65 [] (Named (ρ n))) ≡ shaped ρ r
 
--- the kind of a basic type, 34 for a tuple, 0 for an array and a name
-unfoldable pub kind_of : Ty → ℕ
-kind_of (basic k) = k
-kind_of (Array n t) = 0
-kind_of (Named x) = 0
-kind_of (Tuple n) = 34
+-- the kind of a basic type, 34 for a tuple, none for an array and a name
+unfoldable pub kind_of : Ty → code.Option ℕ
+kind_of (basic k) = Some k
+kind_of (Array n t) = None
+kind_of (Named x) = None
+kind_of (Tuple n) = Some 34
 
 -- what `basic_kind` answers
-pub record KindOf (ks ws sc : List ℕ) (t : Typ) (r : ℕ) : Type 0 where
+pub record KindOf (ks ws sc : List ℕ) (t : Typ) (r : code.Option ℕ) : Type 0 where
   pub is : (ρ : Naming) (al : Aliases) → Table ρ al ks ws sc → r ≡ kind_of (resolve al (asTy ρ t))
 
 -- what `compatible` answers

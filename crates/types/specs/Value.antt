@@ -1,9 +1,10 @@
 -- What a type by value stands for: the tree of types that a `Typ` is, where the names' numbers have texts.
 -- Assumes nothing: these are definitions.
-use Rattle.std.specs.Prelude.{ℕ, zero, suc, ◌+◌, ◌-◌, ◌<◌, ◌≡◌, Bool, true, List, eqb, get_or, if◌then◌else◌}
+use Rattle.std.specs.Prelude as code
+use Rattle.std.specs.Prelude.{ℕ, zero, suc, ◌+◌, ◌-◌, ◌<◌, ◌≡◌, Bool, true, List, eqb, get_or, if◌then◌else◌, Some, None}
 use Rattle.std.proofs.Math.Option.{Option, none, some}
 use Rattle.lustre.specs.Name.{Name}
-use Rattle.lustre.specs.Types.{Ty, basic, Array, Named, Tuple}
+use Rattle.lustre.specs.Types.{Ty, basic, Array, Named, Tuple, members}
 use Rattle.types.specs.declared.Typ.{Typ}
 
 -- the text of each name number
@@ -27,9 +28,15 @@ up l (suc k) t = Array (get_or l k 0) (up l k t)
 unfoldable pub asTy : Naming → Typ → Ty
 asTy ρ t = up t.lengths t.levels (bottom ρ t.base t.name)
 
--- a type that there may be: t where b holds
-unfoldable pub maybe : Naming → Bool → Typ → Option Ty
-maybe ρ b t = if b then some (asTy ρ t) else none
+-- an optional value of the code as the definitions have it
+abbrev pub given : {A : Type 0} → code.Option A → Option A
+given None = none
+given (Some x) = some x
+
+-- a type that there may be
+abbrev pub maybe : Naming → code.Option Typ → Option Ty
+maybe ρ None = none
+maybe ρ (Some t) = some (asTy ρ t)
 
 -- the number of t's name, if t has one, is below 512
 abbrev pub Known : Typ → Type 0
@@ -52,6 +59,10 @@ pub record ArrayOf (n : ℕ) (e t : Typ) : Type 0 where
   pub name : t.name ≡ e.name
   pub levels : t.levels ≡ e.levels + 1
   pub is : (ρ : Naming) → asTy ρ t ≡ Array n (asTy ρ e)
+
+-- what `members` answers
+abbrev pub Members : Typ → code.Option ℕ → Type 0
+Members t r = (ρ : Naming) → members (asTy ρ t) ≡ given r
 
 -- what `same_basic` answers: if true, a and b are one type, whatever the names' texts
 abbrev pub SameBasic : Typ → Typ → Bool → Type 0

@@ -1,10 +1,8 @@
 // Types in the records: kind 32 is an array, its word the length, and its element's type follows; any other kind ends the type.
 ghost use Rattle.types.specs.Place.{IsTypeAt, Last, Read};
 
-use crate::Typ;
-
-// The kind of an array type's record.
-const ARRAY: u8 = 32;
+use crate::{MOST_LEVELS, Typ};
+use lustre::{Records, kinds};
 
 // A type and the place behind it.
 #[derive(Drop)]
@@ -14,36 +12,30 @@ pub struct TypeRead {
 }
 
 // The last record of the type at a place.
-pub fn last_of(kinds: &[u8], words: &[u64], at: usize) -> usize
-    requires { IsTypeAt kinds.now words.now at }
-    ensures { Last kinds.now words.now at result }
+pub fn last_of(records: &Records, at: usize) -> usize
+    requires { IsTypeAt records.now.kinds.now records.now.words.now at }
+    ensures { Last records.now.kinds.now records.now.words.now at result }
 {
-    let mut i = at;
-    while kinds[i] == ARRAY {
-        i += 1;
-    }
-    i
+    at + records.kinds[at..]
+        .iter()
+        .take_while(|k| **k == kinds::ARRAY_TYPE)
+        .count()
 }
 
 // The type at a place: at most 67 lengths, the last record's first.
-pub fn read_type(kinds: &[u8], words: &[u64], at: usize) -> TypeRead
-    requires { IsTypeAt kinds.now words.now at }
-    ensures { Read kinds.now words.now at result.typ result.next }
+pub fn read_type(records: &Records, at: usize) -> TypeRead
+    requires { IsTypeAt records.now.kinds.now records.now.words.now at }
+    ensures { Read records.now.kinds.now records.now.words.now at result.typ result.next }
 {
-    let last = last_of(kinds, words, at);
-    let base = kinds[last];
-    let name = words[last];
-    let mut lengths = [0u32; 127];
-    let mut levels = 0usize;
-    let mut i = last;
-    while at < i {
-        i -= 1;
-        lengths[levels] = words[i] as u32;
-        levels += 1;
+    let last = last_of(records, at);
+    let levels = last - at;
+    let mut lengths = [0; MOST_LEVELS];
+    for i in 0..levels {
+        lengths[i] = records.words[last - 1 - i] as u32;
     }
     let typ = Typ {
-        base,
-        name,
+        base: records.kinds[last],
+        name: records.words[last],
         levels,
         lengths,
     };

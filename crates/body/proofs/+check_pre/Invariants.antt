@@ -6,10 +6,10 @@ use Rattle.body.proofs.Pres.{Checking}
 use Rattle.body.proofs.+check_pre.Given as goal
 
 abbrev pub invariant-loop-left : goal.invariant-loop-left
-invariant-loop-left l = Checking l.kinds l.words l.at l.under l.q l.initial.out l.n l.next l.left l.out l.m
+invariant-loop-left l = Checking l.side.kinds.now l.side.words.now l.at l.under l.q l.initial.lines l.next l.left l.lines
 
 abbrev pub decreases-loop-left : goal.decreases-loop-left
-decreases-loop-left l = length l.kinds - l.next
+decreases-loop-left l = length l.side.kinds.now - l.next
 
 abbrev pub decreases-check_pre : goal.decreases-check_pre
-decreases-check_pre l = length l.kinds.now - l.at
+decreases-check_pre l = length l.side.now.kinds.now - l.at

@@ -1,32 +1,19 @@
--- `body::contains_temporal` meets its contract. The loop's invariant: the records from here on have a temporal operator exactly if the
--- right-hand side has one. Assumes nothing.
-use Prim.Native.Nat.{◌<◌}
-use native.Mathlib.Omega.{arith}
-use mathlib.Core.Path.{sym, ◌∙◌}
+-- `body::contains_temporal` meets its contract: a scan of all records sees each sub-expression. Assumes nothing.
+use mathlib.Core.Path.{refl, ap, sym, ◌∙◌}
+use native.Mathlib.Nat.{zero-add}
 use lib.ListN.{length}
-use Rattle.body.proofs.Scans.{unseen_start, unseen_in, unseen_found, unseen_pass, unseen_done}
-use Rattle.body.proofs.contains_temporal.Goals.{In-loop-i}
+use Rattle.std.proofs.Common.{rules, tests}
+use Rattle.std.specs.List.{list_any}
+use Rattle.std.proofs.lemmas.List.{take_at}
+use Rattle.std.proofs.lemmas.Iterator.{YieldsList-from_slice}
+use Rattle.std.proofs.lemmas.Iterator.Search.{any_from_yields_List}
+use Rattle.body.specs.Body.{temporal_kind}
+use Rattle.body.proofs.Scans.{unseen_start, unseen_any}
 use Rattle.body.proofs.contains_temporal.Goals as goal
 
-inside : (c : In-loop-i) → c.loop-i.i < length c.args.kinds.now
-inside c = let g = c.requires in unseen_in _ g.e (c.loop-i.invariant g) c.loop-i-test.true
-
-pub loop-i-init : goal.loop-i-init
-loop-i-init c = λ g. unseen_start _ g.e g.stands g.ends
-
-pub bounds-kinds-i : goal.bounds-kinds-i
-bounds-kinds-i c = inside (goal.at.bounds-kinds-i c).In-loop-i
-
-pub returns-then-is_temporal : goal.returns-then-is_temporal
-returns-then-is_temporal c = λ g.
-    unseen_found _ g.e (c.loop-i.invariant g) c.loop-i-test.true (sym c.is_temporal.ensures ∙ c.if-is_temporal.true)
-
-pub overflow_add-i : goal.overflow_add-i
-overflow_add-i c = omega (arith, inside (goal.at.overflow_add-i c).In-loop-i)
-
-pub loop-i-preserved : goal.loop-i-preserved
-loop-i-preserved c = λ g.
-    unseen_pass _ g.e (c.loop-i.invariant g) c.loop-i-test.true (sym c.is_temporal.ensures ∙ c.if-is_temporal.false)
-
 pub returns : goal.returns
-returns c = λ g. unseen_done _ g.e (c.loop-i.invariant g) c.loop-i-test.false
+returns c = λ g.
+    let ks = c.args.kinds.now in
+    any_from_yields_List temporal_kind _ _ c.any.result c.any.ensures.ran (YieldsList-from_slice ks c.iter.ensures.rest) (λ x b q k. search (rules, tests))
+    ∙ ap (list_any temporal_kind) (sym (take_at ks g.after _ refl))
+    ∙ unseen_any _ g.whole.e (length ks) (zero-add (length ks)) (unseen_start _ g.whole.e g.whole.stands g.whole.ends)

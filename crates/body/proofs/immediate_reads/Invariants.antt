@@ -6,7 +6,7 @@ use Rattle.body.proofs.Collects.{Collecting}
 use Rattle.body.proofs.immediate_reads.Given as goal
 
 abbrev pub invariant-loop-left : goal.invariant-loop-left
-invariant-loop-left l = Collecting l.kinds l.words l.at l.initial.row l.next l.left l.row
+invariant-loop-left l = Collecting l.records.kinds.now l.records.words.now l.at l.initial.row.bits l.next l.left l.row.bits
 
 abbrev pub decreases-loop-left : goal.decreases-loop-left
-decreases-loop-left l = length l.kinds - l.next
+decreases-loop-left l = length l.records.kinds.now - l.next

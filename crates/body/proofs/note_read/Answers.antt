@@ -1,4 +1,4 @@
--- `body::note_read` meets its contract: what `connect` does to the set is one name more.
+-- `body::note_read` meets its contract: what `insert` does to the set is one name more.
 -- Assumes nothing.
 use mathlib.Core.Path.{◌≡◌, sym, ◌∙◌}
 use mathlib.Core.Bool.{true}
@@ -6,13 +6,13 @@ use Rattle.body.specs.Body.{reading_kind}
 use Rattle.body.proofs.Collects.{with_none, with_one}
 use Rattle.body.proofs.note_read.Goals as goal
 
-pub connect-requires : goal.connect-requires
-connect-requires c = let p = c.requires in (p.0, p.1 (sym c.is_read.ensures ∙ c.if-is_read.true))
+pub insert-requires : goal.insert-requires
+insert-requires c = c.requires (sym c.is_read.ensures ∙ c.if-is_read.true)
 
 pub returns-then-is_read : goal.returns-then-is_read
 returns-then-is_read c =
     let e : reading_kind c.args.kind ≡ true = sym c.is_read.ensures ∙ c.if-is_read.true in
-    λ text. rw e (with_one text _ (c.requires.1 e) c.connect.ensures)
+    λ text. rw e (with_one text _ (c.requires e) c.insert.ensures.added)
 
 pub returns-else-is_read : goal.returns-else-is_read
 returns-else-is_read c = λ text. rw (sym c.is_read.ensures ∙ c.if-is_read.false) (with_none text _)

@@ -1,5 +1,5 @@
 -- A batch has its place in the lines, and the next one moves the loop on; at the end all lines are stored.
-use Rattle.std.proofs.Common.{◌≡◌, ◌∙◌, arith}
+use Rattle.std.proofs.Common.{◌≡◌, arith}
 use Rattle.checker.proofs.Turns.{in_room, going, later, fewer, ended}
 use Rattle.checker.proofs.check_reader.Goals as goal
 
@@ -20,7 +20,7 @@ pub returns : goal.returns
 returns c =
     let last : c.loop-b.b.at ≡ c.loop-b.b.goal = omega (arith, c.loop-b.invariant.batched.within) in
     record {
-      answered = c.answer_of.ensures ∙ c.loop-b.invariant.batched.sums.answered;
+      answered = c.loop-b.invariant.batched.sums.answered;
       lines = ended c.loop-b.invariant last;
       worked = c.loop-b.invariant.batched.done last;
     }

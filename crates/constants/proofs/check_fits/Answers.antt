@@ -9,10 +9,16 @@ use Rattle.constants.proofs.Given.{name_number, alias_table}
 use Rattle.constants.proofs.check_fits.Goals as goal
 
 pub compatible-requires : goal.compatible-requires
-compatible-requires c = ((types_targets c.requires.0.declared).0, c.requires.1)
+compatible-requires c = (types_targets c.requires.declared).0
 
-pub returns-then-compatible : goal.returns-then-compatible
-returns-then-compatible c = λ g e. rw (value_fits (context (skeleton g.model.P)) g.c _ e (sym (c.compatible.ensures g.model.text (apart g.model) _ (alias_table g)) ∙ c.if-compatible.true)) noted_none
+pub bounds-ctx-at : goal.bounds-ctx-at
+bounds-ctx-at c = c.requires.stands.head.in_words
 
-pub returns : goal.returns
-returns c = λ g e. rw (value_unfit (context (skeleton g.model.P)) g.c _ e (sym (c.compatible.ensures g.model.text (apart g.model) _ (alias_table g)) ∙ c.if-compatible.false)) (noted_about g.c.name (name_number g) c.put_line.ensures)
+pub returns-then-not-compatible : goal.returns-then-not-compatible
+returns-then-not-compatible c = λ g e.
+    rw (value_unfit (context (skeleton g.model.P)) g.c _ e (sym (c.compatible.ensures g.model.text (apart g.model) _ (alias_table g)) ∙ c.if-not-compatible.true))
+    (noted_about g.c.name (name_number g) c.put.ensures)
+
+pub returns-else-not-compatible : goal.returns-else-not-compatible
+returns-else-not-compatible c = λ g e.
+    rw (value_fits (context (skeleton g.model.P)) g.c _ e (sym (c.compatible.ensures g.model.text (apart g.model) _ (alias_table g)) ∙ c.if-not-compatible.false)) noted_none

@@ -6,24 +6,23 @@ use Rattle.equations.proofs.Whole.{names_given, side_in, side_there, sides_given
 use Rattle.equations.proofs.check_equation.Goals as goal
 
 pub overflow_add-start-2 : goal.overflow_add-start-2
-overflow_add-start-2 c = omega (arith, side_in c.requires.0, c.requires.0.scoped.model.even)
+overflow_add-start-2 c = omega (arith, side_in c.requires, c.requires.scoped.model.even)
 
-pub check_side-s-requires : goal.check_side-s-requires
-check_side-s-requires c = side_there c.requires.0
+pub check_side-next-requires : goal.check_side-next-requires
+check_side-next-requires c = side_there c.requires
 
-pub check_type-l-requires : goal.check_type-l-requires
-check_type-l-requires c = sides_given c.requires.0
+pub check_type-requires : goal.check_type-requires
+check_type-requires c = sides_given c.requires
 
 pub returns : goal.returns
-returns c =
-    λ g.
+returns c = λ g.
     let w = g.scoped in
     record {
-      next = side_next g (c.check_side-s.ensures (side_there g) w.model.number).0;
+      next = side_next g (c.check_side-next.ensures (side_there g) w.model.number).0;
       noted = λ node seen e ins set.
           equation_noted g node seen e
-          (c.check_names-m.ensures.0 (names_given g) w.model.number w.model.back _ _ _ _ _ w.env w.declared (port_names node.inputs) seen ins set)
-          (c.check_side-s.ensures (side_there g) w.model.number).1
-          (c.check_type-l.ensures (sides_given g));
-      assigned = λ seen set. c.check_names-m.ensures.1 (names_given g) (apart w.model) seen set;
+          (c.check_names.ensures.noted (names_given g) w.model.number w.model.back _ _ _ _ _ w.env w.declared (port_names node.inputs) seen ins set)
+          (c.check_side-next.ensures (side_there g) w.model.number).1
+          (c.check_type.ensures (sides_given g));
+      assigned = λ seen set. c.check_names.ensures.held (names_given g) (apart w.model) seen set;
     }

@@ -1,91 +1,62 @@
--- `equations::check_outputs` meets its contract. The loop's invariant is `Judging` of proofs/Outputs.antt: once the names and outputs that are
--- left are noted, all are. The measure is the lower of their numbers. Assumes nothing.
+-- `equations::check_outputs` meets its contract. The loop keeps `Judging` of proofs/Outputs.antt: once the names and outputs that are left are
+-- noted, all are. Assumes nothing.
+use Prim.Native.Nat.{◌≤◌, ◌<◌}
 use native.Mathlib.Omega.{arith}
-use mathlib.Core.Path.{refl, ◌∙◌}
-use lib.ListN.{length}
-use Rattle.standing.specs.Standing.{MentionAt, one_record}
-use Rattle.standing.proofs.Sizes.{First}
+use lib.ListN.{length, get_or}
 use Rattle.rules.proofs.PortLaws.{FirstPort}
 use Rattle.scope.specs.Tables.{records}
-use Rattle.equations.specs.Equations.{OutputsGiven}
-use Rattle.equations.proofs.Outputs as outputs
-use Rattle.equations.proofs.check_outputs.Goals.{In-loop-left}
-use Rattle.equations.proofs.check_outputs.Goals.{In-loop-left}
+use Rattle.equations.proofs.Names.{first_inside, first_many, first_at, first_small}
+use Rattle.equations.proofs.Outputs.{left_names, both_names, judging_start, judging_more, judging_end, judged_port, judged_output}
+use Rattle.equations.proofs.check_outputs.Goals.{After-min, In-loop-name}
 use Rattle.equations.proofs.check_outputs.Goals as goal
 
--- what the loop keeps where it goes on
-module _ (c : In-loop-left) where
-  abbrev given : let a = c.args in OutputsGiven a.kinds.now a.words.now a.scope.now a.list a.outputs
-  given = c.requires
+-- the names that have an output are among those assigned
+fewer : (c : After-min) → c.min.result ≤ get_or c.args.ctx.now.records.words.now c.args.list 0
+fewer c = both_names c.requires c.min.ensures
 
-  -- the name and the output that are read next
-  abbrev name : First (MentionAt (records given.left.scoped.model)) one_record (c.loop-left.invariant.1 given).names c.loop-left.next (length (c.loop-left.invariant.1 given).names)
-  name = outputs.judged_name given (c.loop-left.invariant.1 given) c.loop-left-test.true
+module _ (c : In-loop-name) where
+  -- the index of a name that has an output
+  pub index : c.loop-name.name-index < c.min.result
+  index = omega (arith, c.loop-name-test.true, first_many (left_names c.requires) {k = c.min.result} (both_names c.requires c.min.ensures))
 
-  abbrev port : FirstPort (records given.left.scoped.model) (c.loop-left.invariant.1 given).ports c.loop-left.port (length (c.loop-left.invariant.1 given).ports)
-  port = outputs.judged_port given (c.loop-left.invariant.1 given) c.loop-left-test.true
+  -- the output beside it
+  abbrev pub port : FirstPort (records c.requires.left.scoped.model) (c.loop-name.invariant c.requires).ports c.loop-name.port (length (c.loop-name.invariant c.requires).ports)
+  port = judged_port c.requires c.min.ensures (c.loop-name.invariant c.requires) index
 
-pub offset_bounds-words-list : goal.offset_bounds-words-list
-offset_bounds-words-list c = omega (arith, c.requires.left.listed.head.in_words)
+pub overflow_add-end-2 : goal.overflow_add-end-2
+overflow_add-end-2 c = omega (arith, first_inside (left_names c.requires) (fewer c))
 
-pub bounds-words-list : goal.bounds-words-list
-bounds-words-list c = c.requires.left.listed.head.in_words
+pub slice_bounds-name-items-end : goal.slice_bounds-name-items-end
+slice_bounds-name-items-end c = omega (arith, first_inside (left_names c.requires) (fewer c))
 
-pub offset_bounds-words-outputs : goal.offset_bounds-words-outputs
-offset_bounds-words-outputs c = omega (arith, c.requires.listed.stand.head.in_words)
+pub loop-name-init : goal.loop-name-init
+loop-name-init c = λ g. judging_start g
 
-pub bounds-words-outputs : goal.bounds-words-outputs
-bounds-words-outputs c = c.requires.listed.stand.head.in_words
+pub overflow_add-port-in-loop-name : goal.overflow_add-port-in-loop-name
+overflow_add-port-in-loop-name c = omega (arith, (port (goal.at.overflow_add-port-in-loop-name c).In-loop-name).head.in_kinds)
 
-pub overflow_add-next : goal.overflow_add-next
-overflow_add-next c = omega (arith, c.requires.left.listed.head.in_words)
+pub check_output-requires-clause-output : goal.check_output-requires-clause-output
+check_output-requires-clause-output c = let d = (goal.at.check_output-requires-clause-output c).In-loop-name in judged_output c.requires c.min.ensures (c.loop-name.invariant c.requires) (index d)
 
-pub overflow_add-port : goal.overflow_add-port
-overflow_add-port c = omega (arith, c.requires.listed.stand.head.in_words)
+pub check_output-requires-clause-small : goal.check_output-requires-clause-small
+check_output-requires-clause-small c = let d = (goal.at.check_output-requires-clause-small c).In-loop-name in first_small (left_names c.requires) {k = c.min.result} (both_names c.requires c.min.ensures) c.loop-name.name-index (index d)
 
-pub loop-left-init : goal.loop-left-init
-loop-left-init c = (refl, λ g. outputs.judging_start g c.lower-left.ensures)
-
-pub offset_bounds-words-next : goal.offset_bounds-words-next
-offset_bounds-words-next c = omega (arith, (name c).x_at.head.in_words)
-
-pub bounds-words-next : goal.bounds-words-next
-bounds-words-next c = (name (goal.at.bounds-words-next c).In-loop-left).x_at.head.in_words
-
-pub overflow_add-port-in-loop-left : goal.overflow_add-port-in-loop-left
-overflow_add-port-in-loop-left c = omega (arith, (port (goal.at.overflow_add-port-in-loop-left c).In-loop-left).head.in_kinds)
-
-pub check_output-m-requires : goal.check_output-m-requires
-check_output-m-requires c = (record { scoped = (given (goal.at.check_output-m-requires c).In-loop-left).left.scoped; t = (port (goal.at.check_output-m-requires c).In-loop-left).p.1; typed = (port (goal.at.check_output-m-requires c).In-loop-left).typed }, (name (goal.at.check_output-m-requires c).In-loop-left).x_at.name.small)
-
-pub overflow_add-next-in-loop-left : goal.overflow_add-next-in-loop-left
-overflow_add-next-in-loop-left c = omega (arith, (name (goal.at.overflow_add-next-in-loop-left c).In-loop-left).x_at.head.in_words)
-
-pub overflow_add-port-in-loop-left-2 : goal.overflow_add-port-in-loop-left-2
-overflow_add-port-in-loop-left-2 c = omega (arith, (port (goal.at.overflow_add-port-in-loop-left-2 c).In-loop-left).head.in_kinds)
+pub overflow_add-port-in-loop-name-2 : goal.overflow_add-port-in-loop-name-2
+overflow_add-port-in-loop-name-2 c = omega (arith, (port (goal.at.overflow_add-port-in-loop-name-2 c).In-loop-name).head.in_kinds)
 
 pub type_end-port-requires : goal.type_end-port-requires
-type_end-port-requires c = record { text = (given (goal.at.type_end-port-requires c).In-loop-left).left.scoped.model.text; t = (port (goal.at.type_end-port-requires c).In-loop-left).p.1; typed = (port (goal.at.type_end-port-requires c).In-loop-left).typed }
+type_end-port-requires c =
+    let p = port (goal.at.type_end-port-requires c).In-loop-name in
+    record { text = c.requires.left.scoped.model.text; t = p.p.1; typed = p.typed }
 
-pub overflow_sub-left : goal.overflow_sub-left
-overflow_sub-left c = omega (arith, c.loop-left-test.true)
-
-pub loop-left-smaller : goal.loop-left-smaller
-loop-left-smaller c = omega (arith, c.loop-left-test.true)
-
-pub loop-left-preserved : goal.loop-left-preserved
-loop-left-preserved c =
-    let k = c.check_output-m in (
-      k.auto.out ∙ c.loop-left.invariant.0,
-      λ g.
-          let j = c.loop-left.invariant.1 g in
-          let h = c.loop-left-test.true in
-          let o = outputs.judged_output g j h in
-          outputs.judging_more g j h (omega (arith, h)) (c.type_end-port.ensures (record { text = g.left.scoped.model.text; t = o.t; typed = o.typed })) (k.ensures o),
-    )
-
-pub shape_of-out : goal.shape_of-out
-shape_of-out c = c.loop-left.invariant.0
+pub loop-name-preserved : goal.loop-name-preserved
+loop-name-preserved c = λ g.
+    let i = index (goal.at.loop-name-preserved c).In-loop-name in
+    let j = c.loop-name.invariant g in
+    let o = judged_output g c.min.ensures j i in
+    judging_more g c.min.ensures j i (first_at (left_names g) {k = c.min.result} c.loop-name.name-index i) (c.type_end-port.ensures (record { text = g.left.scoped.model.text; t = o.t; typed = o.typed })) (c.check_output.ensures o)
 
 pub returns : goal.returns
-returns c = λ g. outputs.judging_end g (c.loop-left.invariant.1 g) (omega (arith, c.loop-left-test.false))
+returns c = λ g.
+    let many = first_many (left_names g) {k = c.min.result} (both_names g c.min.ensures) in
+    judging_end g c.min.ensures (c.loop-name.invariant g) (omega (arith, c.loop-name-test.false, many))

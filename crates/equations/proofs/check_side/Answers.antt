@@ -3,41 +3,41 @@ use native.Mathlib.Omega.{arith}
 use Rattle.equations.proofs.Sides as sides
 use Rattle.equations.proofs.check_side.Goals as goal
 
-pub overflow_sub-end : goal.overflow_sub-end
-overflow_sub-end c = omega (arith, c.skip-next.ensures c.requires)
+pub slice_bounds-kinds-count : goal.slice_bounds-kinds-count
+slice_bounds-kinds-count c = omega (arith, c.skip-next.ensures c.requires)
 
-pub slice_bounds-rk-count : goal.slice_bounds-rk-count
-slice_bounds-rk-count c = omega (arith, sides.side_kinds c.requires)
+pub slice_bounds-kinds-start : goal.slice_bounds-kinds-start
+slice_bounds-kinds-start c = omega (arith, c.skip-next.ensures c.requires)
 
-pub slice_bounds-rk-start : goal.slice_bounds-rk-start
-slice_bounds-rk-start c = omega (arith, sides.side_kinds c.requires)
+pub slice_bounds-kinds-end : goal.slice_bounds-kinds-end
+slice_bounds-kinds-end c = sides.side_end c.requires (c.skip-next.ensures c.requires)
 
-pub offset_bounds-words-start : goal.offset_bounds-words-start
-offset_bounds-words-start c = omega (arith, sides.side_words c.requires)
+pub check_temporal-requires : goal.check_temporal-requires
+check_temporal-requires c = sides.side_own c.requires (c.skip-next.ensures c.requires)
 
-pub slice_bounds-rw-count : goal.slice_bounds-rw-count
-slice_bounds-rw-count c = omega (arith, sides.side_words c.requires)
+pub slice_bounds-side-count : goal.slice_bounds-side-count
+slice_bounds-side-count c = omega (arith, sides.side_kinds c.requires)
 
-pub slice_bounds-rw-start : goal.slice_bounds-rw-start
-slice_bounds-rw-start c = omega (arith, sides.side_words c.requires)
+pub slice_bounds-side-start : goal.slice_bounds-side-start
+slice_bounds-side-start c = omega (arith, sides.side_kinds c.requires)
 
-pub check_temporal-m-requires : goal.check_temporal-m-requires
-check_temporal-m-requires c =
-    let g = c.requires in
-    sides.side_whole g (c.skip-next.ensures g)
+pub offset_bounds-records-start : goal.offset_bounds-records-start
+offset_bounds-records-start c = omega (arith, sides.side_words c.requires)
 
-pub check_pre-p-requires : goal.check_pre-p-requires
-check_pre-p-requires c = sides.side_there c.requires
+pub slice_bounds-side-count-2 : goal.slice_bounds-side-count-2
+slice_bounds-side-count-2 c = omega (arith, sides.side_words c.requires)
 
-pub nested_iterators-l-requires : goal.nested_iterators-l-requires
-nested_iterators-l-requires c =
-    let g = c.requires in
-    sides.side_whole g (c.skip-next.ensures g)
+pub slice_bounds-side-start-2 : goal.slice_bounds-side-start-2
+slice_bounds-side-start-2 c = omega (arith, sides.side_words c.requires)
+
+pub check_pre-requires : goal.check_pre-requires
+check_pre-requires c = sides.side_there c.requires
+
+pub nested_iterators-requires : goal.nested_iterators-requires
+nested_iterators-requires c = sides.side_own c.requires (c.skip-next.ensures c.requires)
 
 pub returns : goal.returns
 returns c = λ g num.
-    let s = c.skip-next in
-    let t = c.check_temporal-m in
-    let p = c.check_pre-p in
-    let w = sides.side_whole g (s.ensures g) in
-    (s.ensures g, sides.side_noted g (t.ensures num w) (p.ensures num (sides.side_there g)) (c.nested_iterators-l.ensures num w))
+    let e = c.skip-next.ensures g in
+    let s = sides.side_own g e in
+    (e, sides.side_noted g (c.check_temporal.ensures num s) (c.check_pre.ensures num (sides.side_there g)) (c.nested_iterators.ensures num s))

@@ -1,13 +1,7 @@
--- `equations::join_names` meets its contract. The loop's invariant is `Joining` of proofs/Edges.antt: with edges from the names that are
--- left the graph has those from all. Assumes nothing.
-use mathlib.Core.Path.{◌≡◌}
-use lib.ListN.{length}
-use Rattle.scope.specs.Names.{NamesHere}
-use Rattle.equations.proofs.Edges as edges
+-- `equations::join_names` meets its contract. The loop keeps `Joining` of proofs/Edges.antt: with edges from the names that are left the graph has
+-- those from all. Assumes nothing.
+use Rattle.equations.proofs.Edges.{Joining}
 use Rattle.equations.proofs.join_names.Given as goal
 
-abbrev pub invariant-loop-left : goal.invariant-loop-left
-invariant-loop-left l = (length l.graph ≡ length l.initial.graph) × ((g : NamesHere l.words l.list) → edges.Joining g l.row l.initial.graph l.graph l.left l.next)
-
-abbrev pub decreases-loop-left : goal.decreases-loop-left
-decreases-loop-left l = l.left
+abbrev pub invariant-loop-name : goal.invariant-loop-name
+invariant-loop-name l = Joining l.name-items l.row.bits l.initial.graph l.name-index l.graph

@@ -1,22 +1,10 @@
--- `format::decode` meets its contract: the file is wrong, has more words than are lent, or its words are stored. Assumes nothing.
-use mathlib.Core.Path.{refl}
-use native.Mathlib.Omega.{arith}
-use lib.ListN.{length-drop}
-use Rattle.format.proofs.Files.{known, lost, decoded_lost, decoded_short, decoded_stored}
+-- A wrong file, or one with more words than are lent.
+use Rattle.std.proofs.Common.{arith}
+use Rattle.format.proofs.Files.{decoded_lost, decoded_short}
 use Rattle.format.proofs.decode.Goals as goal
 
+pub returns-in_err-sizes : goal.returns-in_err-sizes
+returns-in_err-sizes c = rw c.from_residual.ensures (decoded_lost _ _ c.in_err-sizes.ensures)
+
 pub returns-then-n-words : goal.returns-then-n-words
-returns-then-n-words c = decoded_short (known _ _ _ _ c.in-Parts.ensures refl) (omega arith)
-
-pub store_words-requires : goal.store_words-requires
-store_words-requires c =
-    let k = known _ _ _ _ c.in-Parts.ensures refl in
-    (omega (arith, k.few), rw (c.behind.ensures, length-drop) (omega (arith, k.behind)), omega arith)
-
-pub returns-else-n-words : goal.returns-else-n-words
-returns-else-n-words c =
-    decoded_stored (known _ _ _ _ c.in-Parts.ensures refl) (omega arith)
-    c.behind.ensures c.store_words.ensures
-
-pub returns-in-Wrong : goal.returns-in-Wrong
-returns-in-Wrong c = decoded_lost (lost _ _ c.in-Wrong.ensures refl)
+returns-then-n-words c = decoded_short _ _ c.in_ok-sizes.sizes c.in_ok-sizes.ensures (omega arith)

@@ -1,21 +1,10 @@
--- `format::store_words` meets its contract. The invariant: the first i words are stored. The measure is what is left of them.
--- Assumes nothing.
-use native.Mathlib.Omega.{arith}
-use lib.ListN.{length-take}
-use Rattle.format.proofs.Files.{stored_start, stored_more, stored_all}
+-- The next word is stored behind those so far.
+use Rattle.std.proofs.Common.{arith}
+use Rattle.format.proofs.Files.{no_words, one_word}
 use Rattle.format.proofs.store_words.Goals as goal
 
 pub loop-i-init : goal.loop-i-init
-loop-i-init c = stored_start _ _ _
-
-pub number-requires : goal.number-requires
-number-requires c = simp length-take (omega arith)
+loop-i-init c = no_words _
 
 pub loop-i-preserved : goal.loop-i-preserved
-loop-i-preserved c = stored_more _ c.loop-i.invariant c.loop-i-test.true (omega arith) c.number.ensures
-
-pub shape_of-words : goal.shape_of-words
-shape_of-words c = c.loop-i.invariant.long
-
-pub returns : goal.returns
-returns c = stored_all c.loop-i.invariant (omega arith)
+loop-i-preserved c = one_word _ _ _ _ _ _ c.loop-i.invariant (omega arith) (omega arith) c.as_chunks.ensures.front c.from_le_bytes.ensures

@@ -1,102 +1,54 @@
 -- The proof of the cycle of calls {enter}. The measure is the number of free names. The loop's invariant is `Looking` of proofs/Steps.antt,
 -- and each way through its body a law of that file. Assumes nothing.
+use Prim.Native.Nat.{◌+◌, ◌≤◌}
 use native.Mathlib.Omega.{arith}
-use Rattle.loops.proofs.Steps.{room, start_wide, looking_start, looking_skip, looking_clear, long_here, bound_here, fits_here, can_deeper, entered_clear, entered_loop, entered_deeper}
+use mathlib.Core.Path.{sym, ◌∙◌}
+use lib.ListN.{length}
+use Rattle.loops.proofs.Rows.{over_next, over_name, over_end}
+use Rattle.loops.proofs.Steps.{room, looking_skip, looking_clear, long_here, bound_here, fits_here, can_deeper, entered_clear, entered_loop, entered_deeper}
 use Rattle.loops.proofs.+enter.Goals as goal
-
-pub bounds-colour-node : goal.bounds-colour-node
-bounds-colour-node t c = omega (arith, c.requires.name)
-
-pub offset_bounds-path-depth : goal.offset_bounds-path-depth
-offset_bounds-path-depth t c = omega (arith, room c.requires)
-
-pub bounds-path-depth : goal.bounds-path-depth
-bounds-path-depth t c = omega (arith, room c.requires, c.requires.long)
-
-pub next-s-requires : goal.next-s-requires
-next-s-requires t c = (omega (arith, c.requires.name, c.requires.rows), omega arith)
-
-pub loop-s-init : goal.loop-s-init
-loop-s-init t c = looking_start (start_wide c.requires) c.next-s.ensures
-
-pub overflow_add-at : goal.overflow_add-at
-overflow_add-at t c = omega (arith, c.loop-s-test.true)
-
-pub next-s-requires-in-loop-s : goal.next-s-requires-in-loop-s
-next-s-requires-in-loop-s t c =
-    let can = c.requires in
-    (omega (arith, can.name, can.rows), omega (arith, c.loop-s-test.true))
 
 pub overflow_add-looks : goal.overflow_add-looks
 overflow_add-looks t c =
-    omega (arith, fits_here c.requires c.loop-s.invariant c.loop-s-test.true)
+    let i = c.loop-s.invariant in
+    omega (arith, fits_here c.requires i.1 (over_name i.0 c.in-Some.ensures.steps))
 
-pub bounds-colour-at : goal.bounds-colour-at
-bounds-colour-at t c = c.loop-s-test.true
+pub loop-s-preserved-in-Cleared : goal.loop-s-preserved-in-Cleared
+loop-s-preserved-in-Cleared t c =
+    let i = c.loop-s.invariant in
+    let n = c.in-Some.ensures.steps in
+    (over_next i.0 n, rw n.from (looking_skip i.1 (over_name i.0 n) c.in-Cleared.is))
 
-pub overflow_add-path : goal.overflow_add-path
-overflow_add-path t c = omega (arith, room c.requires)
+pub bounds-path-depth-in-OnPath : goal.bounds-path-depth-in-OnPath
+bounds-path-depth-in-OnPath t c = omega (arith, room c.requires, long_here c.requires c.loop-s.invariant.1)
 
-pub offset_bounds-path-depth-then-c-eq1 : goal.offset_bounds-path-depth-then-c-eq1
-offset_bounds-path-depth-then-c-eq1 t c = omega (arith, room c.requires)
-
-pub bounds-path-depth-then-c-eq1 : goal.bounds-path-depth-then-c-eq1
-bounds-path-depth-then-c-eq1 t c =
-    let can = c.requires in
-    omega (arith, room can, long_here can c.loop-s.invariant)
-
-pub overflow_add-end : goal.overflow_add-end
-overflow_add-end t c = omega (arith, room c.requires)
-
-pub returns-then-c-eq1 : goal.returns-then-c-eq1
-returns-then-c-eq1 t c =
-    entered_loop c.requires c.loop-s.invariant c.loop-s-test.true c.next-s-in-loop-s.ensures c.if-c-eq1.true
-
-pub shape_of-path-then-c-eq1 : goal.shape_of-path-then-c-eq1
-shape_of-path-then-c-eq1 t c = (returns-then-c-eq1 t c).long
-
-pub loop-s-smaller-then-c-ne0 : goal.loop-s-smaller-then-c-ne0
-loop-s-smaller-then-c-ne0 t c =
-    omega (arith, c.loop-s-test.true, c.next-s-in-loop-s.ensures.after)
-
-pub loop-s-preserved-then-c-ne0 : goal.loop-s-preserved-then-c-ne0
-loop-s-preserved-then-c-ne0 t c =
-    looking_skip c.loop-s.invariant c.loop-s-test.true c.next-s-in-loop-s.ensures c.if-c-eq1.false c.if-c-ne0.true
-
-pub overflow_add-depth : goal.overflow_add-depth
-overflow_add-depth t c = omega (arith, room c.requires)
+pub returns-in-OnPath : goal.returns-in-OnPath
+returns-in-OnPath t c =
+    let i = c.loop-s.invariant in
+    entered_loop c.requires i.1 (over_name i.0 c.in-Some.ensures.steps) c.in-OnPath.is
 
 pub enter-r-requires : goal.enter-r-requires
 enter-r-requires t c =
-    let can = c.requires in
-    let b = c.loop-s-test.true in
-    (omega (arith, bound_here can c.loop-s.invariant b), can_deeper can c.loop-s.invariant b c.if-c-ne0.false)
+    let i = c.loop-s.invariant in
+    let n = over_name i.0 c.in-Some.ensures.steps in
+    (omega (arith, bound_here c.requires i.1 n), can_deeper c.requires i.1 n c.in-Free.is)
 
-pub overflow_add-looks-in-loop-s : goal.overflow_add-looks-in-loop-s
-overflow_add-looks-in-loop-s t c =
-    omega (arith, fits_here c.requires c.loop-s.invariant c.loop-s-test.true, c.enter-r.ensures.bounded)
+pub overflow_add-looks-in-Free : goal.overflow_add-looks-in-Free
+overflow_add-looks-in-Free t c =
+    let i = c.loop-s.invariant in
+    omega (arith, fits_here c.requires i.1 (over_name i.0 c.in-Some.ensures.steps), c.enter-r.ensures.bounded)
 
-pub returns-then-end-ne0 : goal.returns-then-end-ne0
-returns-then-end-ne0 t c =
-    entered_deeper c.requires c.loop-s.invariant c.loop-s-test.true c.next-s-in-loop-s.ensures c.if-c-ne0.false c.enter-r.ensures c.if-end-ne0.true
-
-pub shape_of-path-then-end-ne0 : goal.shape_of-path-then-end-ne0
-shape_of-path-then-end-ne0 t c = (returns-then-end-ne0 t c).long
-
-pub loop-s-smaller : goal.loop-s-smaller
-loop-s-smaller t c =
-    omega (arith, c.loop-s-test.true, c.next-s-in-loop-s.ensures.after)
+pub returns-then-is_some : goal.returns-then-is_some
+returns-then-is_some t c =
+    let i = c.loop-s.invariant in
+    entered_deeper c.requires i.1 (over_name i.0 c.in-Some.ensures.steps) c.in-Free.is c.enter-r.ensures (sym c.is_some.ensures ∙ c.if-is_some.true)
 
 pub loop-s-preserved : goal.loop-s-preserved
 loop-s-preserved t c =
-    let can = c.requires in
-    looking_clear c.loop-s.invariant c.loop-s-test.true c.next-s-in-loop-s.ensures (omega (arith, room can, long_here can c.loop-s.invariant)) c.if-c-ne0.false c.enter-r.ensures c.if-end-ne0.false
-
-pub bounds-colour-node-2 : goal.bounds-colour-node-2
-bounds-colour-node-2 t c = omega (arith, c.requires.name)
+    let i = c.loop-s.invariant in
+    let n = c.in-Some.ensures.steps in
+    let deep : c.args.depth + 1 ≤ length c.loop-s.path = omega (arith, room c.requires, long_here c.requires i.1) in
+    (over_next i.0 n, rw n.from (looking_clear i.1 (over_name i.0 n) deep c.in-Free.is c.enter-r.ensures (sym c.is_some.ensures ∙ c.if-is_some.false)))
 
 pub returns : goal.returns
-returns t c = entered_clear c.requires c.loop-s.invariant c.loop-s-test.false
-
-pub shape_of-path : goal.shape_of-path
-shape_of-path t c = (returns t c).long
+returns t c = let i = c.loop-s.invariant in entered_clear c.requires i.1 (over_end i.0 c.in-None.ensures.steps)

@@ -1,13 +1,14 @@
--- `first` meets its contract. The loop's invariant: the last name of the path does not stand before `p`.
--- Assumes nothing.
-use Rattle.loops.proofs.Place.{seeking_start, seeking_more, seeking_end}
+-- `first` meets its contract: the first place of the last name. Assumes nothing.
+use Rattle.std.proofs.Common.{rules, tests}
+use Prim.Native.Nat.{◌-◌}
+use mathlib.Core.Path.{◌≡◌}
+use lib.ListN.{get_or, take}
+use Rattle.std.proofs.lemmas.Iterator.{IsFirst-from_position, YieldsList-from_slice}
+use Rattle.loops.proofs.Place.{placed}
 use Rattle.loops.proofs.first.Goals as goal
 
-pub loop-p-init : goal.loop-p-init
-loop-p-init c = seeking_start c.requires
-
-pub loop-p-preserved : goal.loop-p-preserved
-loop-p-preserved c = seeking_more c.requires c.loop-p.invariant c.loop-p-test.true
-
 pub returns : goal.returns
-returns c = seeking_end c.requires c.loop-p.invariant c.loop-p-test.false
+returns c =
+    let p = c.args.path.now in
+    let x = get_or p (c.args.end - 1) 0 in
+    placed c.requires c.unwrap.ensures (IsFirst-from_position _ _ _ (λ y. y ≡ x) (λ y. y ≡ x → ⊥) c.position.ensures.ran (YieldsList-from_slice (take c.args.end p) cc) (λ y q k. search (rules, tests)) (λ y q k. search (rules, tests)))

@@ -1,11 +1,7 @@
 -- `join_row` meets its contract. The loop's invariant is `Joining` of proofs/Stores.antt: k words of the set are in the row.
 -- Assumes nothing.
-use Prim.Native.Nat.{◌-◌}
 use Rattle.loops.proofs.Stores.{Joining}
 use Rattle.loops.proofs.join_row.Given as goal
 
 abbrev pub invariant-loop-k : goal.invariant-loop-k
-invariant-loop-k l = Joining l.initial.graph l.a l.row l.graph l.k
-
-abbrev pub decreases-loop-k : goal.decreases-loop-k
-decreases-loop-k l = 8 - l.k
+invariant-loop-k l = Joining l.initial.graph l.a l.row.bits l.graph l.k

@@ -6,7 +6,7 @@ use Rattle.loops.specs.Rows.{row_from}
 use Rattle.loops.proofs.next.Given as goal
 
 abbrev pub invariant-loop-b : goal.invariant-loop-b
-invariant-loop-b l = (l.from ≤ l.b) × (l.b ≤ 512) × (row_from l.graph l.a l.from ≡ row_from l.graph l.a l.b)
+invariant-loop-b l = (l.from ≤ l.b) × (l.b ≤ 512) × (row_from l.words l.a l.from ≡ row_from l.words l.a l.b)
 
 abbrev pub decreases-loop-b : goal.decreases-loop-b
 decreases-loop-b l = 512 - l.b

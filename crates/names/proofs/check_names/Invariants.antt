@@ -1,12 +1,6 @@
--- `names::check_names` meets its contract. The invariant: the pieces passed are names, and the rest decides. The measure is what is left of the text.
--- Assumes nothing.
-use Prim.Native.Nat.{◌-◌}
-use lib.ListN.{length}
+-- `names::check_names` meets its contract. The invariant: the pieces passed are names, and the rest decides.
 use Rattle.names.proofs.Checks.{Passed}
 use Rattle.names.proofs.check_names.Given as goal
 
-abbrev pub invariant-loop-at : goal.invariant-loop-at
-invariant-loop-at l = Passed l.text l.n l.b l.e l.at
-
-abbrev pub decreases-loop-at : goal.decreases-loop-at
-decreases-loop-at l = length l.text - l.at
+abbrev pub invariant-loop-piece : goal.invariant-loop-piece
+invariant-loop-piece l = Passed l.text l.piece-iterator.rest.now l.before l.n

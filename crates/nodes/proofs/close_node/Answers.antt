@@ -3,17 +3,14 @@ use Rattle.nodes.proofs.Opens.{outputs_here, locals_here, probes_here}
 use Rattle.nodes.proofs.Closes.{closed}
 use Rattle.nodes.proofs.close_node.Goals as goal
 
-pub absent_ports-a-requires : goal.absent_ports-a-requires
-absent_ports-a-requires c = (outputs_here c.requires.0.0.node.stands c.requires.0.0.node.shallow c.requires.0.1, c.requires.1)
+pub absent_ports-requires : goal.absent_ports-requires
+absent_ports-requires c = let g = c.requires.node.0 in outputs_here g.node.node.stands g.node.node.shallow g.lists.outputs
 
-pub absent_ports-b-requires : goal.absent_ports-b-requires
-absent_ports-b-requires c = (locals_here c.requires.0.0.node.stands c.requires.0.0.node.shallow c.requires.0.2, c.requires.1)
+pub absent_ports-requires-2 : goal.absent_ports-requires-2
+absent_ports-requires-2 c = let g = c.requires.node.0 in locals_here g.node.node.stands g.node.node.shallow g.lists.locals
 
-pub check_loops-j-requires : goal.check_loops-j-requires
-check_loops-j-requires c = (c.requires.2, c.requires.1, c.requires.3)
-
-pub absent_probes-m-requires : goal.absent_probes-m-requires
-absent_probes-m-requires c = (probes_here c.requires.0.0.node.stands c.requires.0.0.node.shallow c.requires.0.3, c.requires.0.0.declared.room)
+pub absent_probes-requires : goal.absent_probes-requires
+absent_probes-requires c = let g = c.requires.node.0 in probes_here g.node.node.stands g.node.node.shallow c.requires.node.1
 
 pub returns : goal.returns
-returns c = (c.check_loops-j.ensures.0, λ g e₁ e₂ e₃ k h w. closed g e₁ e₂ e₃ k h w c.absent_ports-a.ensures c.absent_ports-b.ensures c.check_loops-j.ensures c.absent_probes-m.ensures)
+returns c = λ g e k h w. closed g.node g.lists e k h w c.absent_ports.ensures c.absent_ports-2.ensures c.check_loops-looks.ensures.few c.check_loops-looks.ensures.noted c.absent_probes.ensures

@@ -1,41 +1,33 @@
--- `ports::absent_probes` meets its contract. The invariant: the notes on the names that are left are all that the list is to have. The
--- measure is their number. Assumes nothing.
+-- `absent_probes` meets its contract. The loop's invariant is `Probing` of proofs/Loops.antt. Assumes nothing.
+use Prim.Native.Nat.{◌<◌}
 use native.Mathlib.Omega.{arith}
-use mathlib.Core.Path.{◌≡◌, refl}
-use Rattle.ports.proofs.Loops.{probing_start, probing_first, probing_next, probing_end}
+use lib.ListN.{get_or}
+use Rattle.ports.proofs.Loops.{at_none, at_some, names_within, probe_word, probe_count, probing_first, probing_known, probing_unknown, probing_end}
+use Rattle.ports.proofs.absent_probes.Goals.{then-is_none, else-is_none}
 use Rattle.ports.proofs.absent_probes.Goals as goal
 
-pub offset_bounds-words-list : goal.offset_bounds-words-list
-offset_bounds-words-list c = omega (arith, c.requires.0.listed.head.in_words)
+pub overflow_add-name-items-3 : goal.overflow_add-name-items-3
+overflow_add-name-items-3 c = omega (arith, names_within c.requires)
 
-pub bounds-words-list : goal.bounds-words-list
-bounds-words-list c = c.requires.0.listed.head.in_words
+pub slice_bounds-name-items-end : goal.slice_bounds-name-items-end
+slice_bounds-name-items-end c = let h = names_within c.requires in omega (arith, h)
 
-pub overflow_add-next : goal.overflow_add-next
-overflow_add-next c = omega (arith, c.requires.0.listed.head.in_words)
+pub declared-requires : goal.declared-requires
+declared-requires c =
+    let g = c.requires in
+    let b : c.loop-name.name-index < get_or c.args.words.now c.args.list 0 = omega (arith, c.loop-name-test.true, probe_count g) in
+    (omega arith, rw (probe_word g c.loop-name.name-index b) (probing_first (c.loop-name.invariant g) b).x_at.name.small)
 
-pub loop-left-init : goal.loop-left-init
-loop-left-init c = (refl, λ g. probing_start g)
-
-pub offset_bounds-words-next : goal.offset_bounds-words-next
-offset_bounds-words-next c = omega (arith, (probing_first (c.loop-left.invariant.1 c.requires.0) (λ z. omega (arith, c.loop-left-test.true))).x_at.head.in_words)
-
-pub bounds-words-next : goal.bounds-words-next
-bounds-words-next c = (probing_first (c.loop-left.invariant.1 c.requires.0) (λ z. omega (arith, c.loop-left-test.true))).x_at.head.in_words
-
-pub absent_probe-m-requires : goal.absent_probe-m-requires
-absent_probe-m-requires c = (c.requires.1, (probing_first (c.loop-left.invariant.1 c.requires.0) (λ z. omega (arith, c.loop-left-test.true))).x_at.name.small)
-
-pub overflow_add-next-in-loop-left : goal.overflow_add-next-in-loop-left
-overflow_add-next-in-loop-left c = omega (arith, (probing_first (c.loop-left.invariant.1 c.requires.0) (λ z. omega (arith, c.loop-left-test.true))).x_at.head.in_words)
-
-pub loop-left-preserved : goal.loop-left-preserved
-loop-left-preserved c =
-    let l = c.loop-left.invariant in
-    let h : c.loop-left.left ≡ 0 → ⊥ = λ z. omega (arith, c.loop-left-test.true) in (
-      omega arith,
-      λ g. probing_next (l.1 g) h c.absent_probe-m.ensures (omega arith),
-    )
+pub loop-name-preserved : goal.loop-name-preserved
+loop-name-preserved c = λ g.
+    let i = c.loop-name.invariant g in
+    let b : c.loop-name.name-index < get_or c.args.words.now c.args.list 0 = omega (arith, c.loop-name-test.true, probe_count g) in
+    let z = probe_word g c.loop-name.name-index b in
+    let d = rw z at c.declared.ensures.entry in
+    elim c.if-is_none.branch [
+      | then-is_none w ↦ rw w.lines-is (probing_unknown i b (at_none c.declared.result c.is_none.ensures w.if-is_none.true d) (rw z at w.put.ensures))
+      | else-is_none w ↦ rw w.lines-is (let s = at_some c.declared.result c.is_none.ensures w.if-is_none.false d in probing_known i b s.0 s.1)
+    ]
 
 pub returns : goal.returns
-returns c = λ g num b as' rs vs cs ns env T. probing_end (c.loop-left.invariant.1 g) (omega arith) num b as' rs vs cs ns env T
+returns c = λ g. probing_end (c.loop-name.invariant g) (omega (arith, c.loop-name-test.false, c.loop-name.auto.name-index-end, probe_count g))

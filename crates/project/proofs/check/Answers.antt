@@ -7,14 +7,14 @@ use Rattle.project.proofs.check.Goals as goal
 
 pub judge-requires : goal.judge-requires
 judge-requires c =
-    let e = sym c.in-Accepted.ensures in
-    (model_accepted _ _ _ _ _ e, aliases_accepted _ _ _ _ _ e, work_accepted _ _ _ _ _ e)
+    let e = sym (rw c.in-Ok-Some.field-0-is at c.in-Ok-Some.ensures) in
+    record { model = model_accepted _ _ _ _ _ e; aliases = aliases_accepted _ _ _ _ _ e; room = work_accepted _ _ _ _ _ e }
 
-pub returns-in-Accepted : goal.returns-in-Accepted
-returns-in-Accepted c = called_accepted _ _ _ _ _ _ c.in-Accepted.ensures c.judge.ensures
+pub returns-in-Ok-Some : goal.returns-in-Ok-Some
+returns-in-Ok-Some c = called_accepted _ _ _ _ _ _ (rw c.in-Ok-Some.field-0-is at c.in-Ok-Some.ensures) (c.judge.ensures.cleared, c.judge.ensures.judged)
 
-pub returns-in-Blank : goal.returns-in-Blank
-returns-in-Blank c = called_blank _ _ _ _ _ c.in-Blank.ensures c.report_blank.ensures
+pub returns-in-Ok-None : goal.returns-in-Ok-None
+returns-in-Ok-None c = called_blank _ _ _ _ _ (rw c.in-Ok-None.field-0-is at c.in-Ok-None.ensures) c.report_blank.ensures
 
-pub returns-in-Refused : goal.returns-in-Refused
-returns-in-Refused c = called_refused _ _ _ _ _ _ _ c.in-Refused.ensures refl
+pub returns-in-Err : goal.returns-in-Err
+returns-in-Err c = called_refused _ _ _ _ _ _ _ c.in-Err.ensures refl

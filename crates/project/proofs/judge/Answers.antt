@@ -4,16 +4,28 @@ use mathlib.Core.Path.{refl}
 use lib.ListN.{length, length-take}
 use Rattle.project.proofs.Closed.{judged_report, judged_more}
 use Rattle.project.proofs.Nodes.{blank_front}
+use Rattle.std.proofs.Common.{rules}
+use Rattle.std.specs.Prelude.{◌≡◌, replicate}
 use Rattle.project.proofs.judge.Goals as goal
 
 pub slice_bounds-report-end-2 : goal.slice_bounds-report-end-2
-slice_bounds-report-end-2 c = simp length-take (omega (arith, c.requires.2))
+slice_bounds-report-end-2 c = simp length-take (omega (arith, c.requires.room))
 
-pub report-r-requires : goal.report-r-requires
-report-r-requires c = (c.requires.0, c.requires.1, blank_front {n = length c.args.work.now} (c.clear.ensures (length c.args.work.now) refl) (omega (arith, c.requires.2)))
+pub report-looks-requires-clause-blank : goal.report-looks-requires-clause-blank
+report-looks-requires-clause-blank c = let z : c.fill.new.self ≡ replicate (length c.args.work.now) 0 = search rules in blank_front z (omega (arith, c.requires.room))
 
-pub returns-then-r-room : goal.returns-then-r-room
-returns-then-r-room c = (c.clear-2.ensures (length c.args.work.now) (omega arith), λ g e. let r = c.report-r.ensures g e in judged_report g r.0 (omega arith) r.1 (omega (arith, c.if-r-room.true)))
+pub returns-then-count-room-clause-judged : goal.returns-then-count-room-clause-judged
+returns-then-count-room-clause-judged c =
+    λ g e.
+    let r = c.report-looks.ensures g e in
+    let same = r.0.same in
+    let u = judged_report g refl refl r.0 (omega arith) r.1 (omega arith) in
+    search (rules, u, same)
 
-pub returns : goal.returns
-returns c = (c.clear-2.ensures (length c.args.work.now) (omega arith), λ g e. let r = c.report-r.ensures g e in judged_more g r.0 (omega arith) (omega (arith, c.if-r-room.false)))
+pub returns-else-count-room-clause-judged : goal.returns-else-count-room-clause-judged
+returns-else-count-room-clause-judged c =
+    λ g e.
+    let r = c.report-looks.ensures g e in
+    let same = r.0.same in
+    let u = judged_more g refl refl r.0 (omega arith) (omega arith) in
+    search (rules, u, same)

@@ -1,29 +1,15 @@
 -- `records::check_structure` meets its contract: the walk goes over the records of the shorter slice. Assumes nothing.
-use Rattle.std.proofs.Common.{◌≡◌, length, arith}
-use Prim.Native.Nat.{min}
 use Rattle.records.proofs.Projects as projects
 use Rattle.records.proofs.check_structure.Goals as goal
-use Rattle.records.proofs.check_structure.Goals.{Joined-kinds-words, then-kinds-words, else-kinds-words}
 
--- what both arms of the `if` leave
-shorter : (c : Joined-kinds-words) → c.if-kinds-words.n ≡ min (length c.args.kinds.now) (length c.args.words.now)
-shorter c = elim c.if-kinds-words.branch [ then-kinds-words w ↦ omega arith | else-kinds-words w ↦ omega arith ]
+pub returns-in-Err : goal.returns-in-Err
+returns-in-Err c = projects.refused _ _ _ c.min-n.ensures _ c.part.ensures _ c.in-Err.is
 
-pub part-requires : goal.part-requires
-part-requires c = projects.project_asked _ _ _ (shorter (goal.at.part-requires c).Joined-kinds-words)
+pub returns-in-Ok : goal.returns-in-Ok
+returns-in-Ok c = projects.left_over _ _ _ c.min-n.ensures _ c.part.ensures _ c.in-Ok.is c.if-end-n.true
 
-pub returns-then-e-n : goal.returns-then-e-n
-returns-then-e-n c = projects.left_over _ _ _ (shorter (goal.at.returns-then-e-n c).Joined-kinds-words) _ _ c.part.ensures _ _ c.in-End.is c.if-e-n.true
+pub returns-in-Some : goal.returns-in-Some
+returns-in-Some c = projects.too_far _ _ _ c.min-n.ensures _ c.part.ensures _ c.in-Ok.is c.if-end-n.false _ c.in-Some.is
 
-pub returns-then-d : goal.returns-then-d
-returns-then-d c =
-    let s = shorter (goal.at.returns-then-d c).Joined-kinds-words in
-    projects.too_far _ _ _ s _ _ c.part.ensures _ _ c.in-End.is c.if-e-n.false (omega arith) c.if-d.true
-
-pub returns-in-Bad : goal.returns-in-Bad
-returns-in-Bad c = projects.refused _ _ _ (shorter (goal.at.returns-in-Bad c).Joined-kinds-words) _ _ c.part.ensures _ c.in-Bad.is
-
-pub returns-else-d : goal.returns-else-d
-returns-else-d c =
-    let s = shorter (goal.at.returns-else-d c).Joined-kinds-words in
-    projects.accepted _ _ _ s _ _ c.part.ensures _ _ c.in-End.is c.if-e-n.false (omega arith) c.if-d.false
+pub returns-in-None : goal.returns-in-None
+returns-in-None c = projects.accepted _ _ _ c.min-n.ensures _ c.part.ensures _ c.in-Ok.is c.if-end-n.false c.in-None.is

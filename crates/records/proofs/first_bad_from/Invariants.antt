@@ -5,11 +5,7 @@ use Rattle.records.specs.Ranges.{bad_from}
 use Rattle.records.proofs.first_bad_from.Given as goal
 
 abbrev pub invariant-loop-s : goal.invariant-loop-s
-invariant-loop-s l =
-    record {
-      same : count l.s ≡ l.count;
-      leads : bad_from l.names l.r ≡ bad_from l.names l.s;
-    }
+invariant-loop-s l = bad_from l.names l.r ≡ bad_from l.names l.s
 
 abbrev pub decreases-loop-s : goal.decreases-loop-s
-decreases-loop-s l = l.count - l.s.at
+decreases-loop-s l = count l.s - l.s.at

@@ -2,8 +2,8 @@
 use Rattle.records.proofs.Ends as ends
 use Rattle.records.proofs.part_end.Goals as goal
 
-pub returns-in-End : goal.returns-in-End
-returns-in-End c = ends.ended _ _ _ _ c.requires _ _ _ c.part.ensures _ _ c.in-End.is
+pub returns-in-Ok : goal.returns-in-Ok
+returns-in-Ok c = ends.ended _ _ _ _ c.requires _ c.part.ensures _ c.in-Ok.is
 
-pub returns-in-Bad : goal.returns-in-Bad
-returns-in-Bad c = absurd (ends.never _ _ _ _ c.requires _ _ _ c.part.ensures _ c.in-Bad.is)
+pub returns-in-Err : goal.returns-in-Err
+returns-in-Err c = absurd (ends.never _ _ _ _ c.requires _ c.part.ensures _ c.in-Err.is)

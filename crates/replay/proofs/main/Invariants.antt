@@ -1,9 +1,6 @@
--- `replay::main`: no more models agree than were run, and it ends.
-use Rattle.std.proofs.Common.{◌-◌, ◌≤◌}
+-- `replay::main`: no more models agree than were run.
+use Rattle.std.proofs.Common.{◌≤◌}
 use Rattle.replay.proofs.main.Given as goal
 
-abbrev pub invariant-loop-models : goal.invariant-loop-models
-invariant-loop-models l = (l.agree ≤ l.models) × (l.models ≤ 100000)
-
-abbrev pub decreases-loop-models : goal.decreases-loop-models
-decreases-loop-models l = 100000 - l.models
+abbrev pub invariant-loop-number : goal.invariant-loop-number
+invariant-loop-number l = l.agree ≤ l.number-counter

@@ -1,19 +1,18 @@
--- `response::answer_to` meets its contract: the call on the parts of the file, or a wrong file. Assumes nothing.
-use native.Mathlib.Omega.{arith}
+-- The call on the parts of the file, or a wrong file.
+use Rattle.std.proofs.Common.{arith}
 use lib.ListN.{length-take}
-use Rattle.response.proofs.Files.{parts_few}
-use mathlib.Core.Path.{refl}
+use Rattle.format.proofs.Callers.{decoded_some}
 use Rattle.response.proofs.Answers.{answered_parts, answered_wrong}
 use Rattle.response.proofs.answer_to.Goals as goal
 
 pub slice_bounds-words-end : goal.slice_bounds-words-end
-slice_bounds-words-end c = omega (arith, parts_few c.in-Parts.ensures refl)
+slice_bounds-words-end c = omega (arith, (decoded_some _ _ _ _ c.in-Some.ensures).0)
 
-pub slice_bounds-check_all-end : goal.slice_bounds-check_all-end
-slice_bounds-check_all-end c = simp length-take (omega (arith, parts_few c.in-Parts.ensures refl))
+pub slice_bounds-words-end-in-Some : goal.slice_bounds-words-end-in-Some
+slice_bounds-words-end-in-Some c = simp length-take (omega (arith, (decoded_some _ _ _ _ c.in-Some.ensures).0))
 
-pub returns-in-Parts : goal.returns-in-Parts
-returns-in-Parts c = answered_parts _ _ _ _ _ _ _ _ _ _ _ _ c.in-Parts.ensures refl c.kinds_in.ensures c.text_in.ensures c.check_all.ensures
+pub returns-in-Some : goal.returns-in-Some
+returns-in-Some c = answered_parts _ _ _ _ _ _ _ _ _ _ _ c.in-Some.ensures c.kinds_in.ensures c.text_in.ensures c.check_project.ensures
 
-pub returns-in-Wrong : goal.returns-in-Wrong
-returns-in-Wrong c = answered_wrong _ _ _ _ _ _ _ (omega arith) c.in-Wrong.ensures refl c.wrong.ensures
+pub returns-in-None : goal.returns-in-None
+returns-in-None c = answered_wrong _ _ _ _ _ (omega arith) c.in-None.ensures

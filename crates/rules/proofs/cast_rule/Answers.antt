@@ -5,23 +5,20 @@ use Rattle.lustre.specs.Infer.{cast_of}
 use Rattle.rules.proofs.Laws.{returned, refused, passed}
 use Rattle.rules.proofs.cast_rule.Goals as goal
 
-pub resolves_within-requires : goal.resolves_within-requires
-resolves_within-requires c = (c.requires.0, omega arith, omega arith)
-
-pub returns-then-is_numeric : goal.returns-then-is_numeric
+pub returns-then-not-resolves_within : goal.returns-then-not-resolves_within
 unfolding cast_of
-returns-then-is_numeric c =
-    λ W.
-    passed _ (sym (c.resolves_within.ensures W) ∙ c.if-resolves_within.true)
-    (passed _ (sym (c.is_numeric.ensures W.text) ∙ c.if-is_numeric.true) (returned _ (omega arith) c.requires.1 refl refl))
+returns-then-not-resolves_within c = λ W. refused _ (sym (c.resolves_within.ensures W) ∙ c.if-not-resolves_within.true) c.fail.ensures
 
-pub returns-then-resolves_within : goal.returns-then-resolves_within
+pub returns-then-not-is_numeric : goal.returns-then-not-is_numeric
 unfolding cast_of
-returns-then-resolves_within c =
+returns-then-not-is_numeric c =
     λ W.
-    passed _ (sym (c.resolves_within.ensures W) ∙ c.if-resolves_within.true)
-    (refused _ (sym (c.is_numeric.ensures W.text) ∙ c.if-is_numeric.false) c.fail_plain.ensures)
+    passed _ (sym (c.resolves_within.ensures W) ∙ c.if-not-resolves_within.false)
+    (refused _ (sym (c.is_numeric.ensures W.text) ∙ c.if-not-is_numeric.true) c.fail-then-not-is_numeric.ensures)
 
 pub returns : goal.returns
 unfolding cast_of
-returns c = λ W. refused _ (sym (c.resolves_within.ensures W) ∙ c.if-resolves_within.false) c.fail_plain-2.ensures
+returns c =
+    λ W.
+    passed _ (sym (c.resolves_within.ensures W) ∙ c.if-not-resolves_within.false)
+    (passed _ (sym (c.is_numeric.ensures W.text) ∙ c.if-not-is_numeric.false) (returned _ (omega arith) c.requires.1 refl))

@@ -1,82 +1,57 @@
 -- `rules::field_rule` meets its contract, by the resolved type's form: a record's entry leads to its fields. Assumes nothing.
 use native.Mathlib.Omega.{arith}
 use mathlib.Core.Path.{◌≡◌}
-use Rattle.standing.specs.Standing.{source}
-use Rattle.rules.specs.World.{Listed}
-use Rattle.rules.proofs.Laws.{apart, gave, failed_of, found_not, leads, ports_led}
-use Rattle.rules.proofs.Places.{type_in}
+use Rattle.rules.proofs.Laws.{apart, resolved, gave, failed_of, found_not, found, ports_led}
+use Rattle.rules.proofs.Places.{type_there, read_is}
 use Rattle.rules.proofs.Rules as rules
 use Rattle.rules.proofs.field_rule.Goals as goal
+use Rattle.rules.proofs.field_rule.Goals.{then-s-ne0-via-then-s-ne0, then-s-ne0-via-else-s-ne0+then-s-lt-NAMED}
 
 pub returns-then-s-ne0 : goal.returns-then-s-ne0
 returns-then-s-ne0 c =
     λ W.
-    rw (← c.resolve-s.ensures.is W.text W.Γ.alias W.alias, rules.field_array W.Γ _ _ W.text c.resolve-s.result c.if-s-ne0.true)
-    (failed_of _ (W.back _) c.fail.ensures)
+    elim c.then-s-ne0.branch [
+      | then-s-ne0-via-then-s-ne0 w ↦ rw (resolved W c.resolve-s.ensures, rules.field_array W.Γ c.args.at (W.text c.args.name) W.text c.resolve-s.result w.if-s-ne0.true) (failed_of _ (W.back _) c.fail.ensures)
+      | then-s-ne0-via-else-s-ne0+then-s-lt-NAMED w ↦
+          rw (resolved W c.resolve-s.ensures, rules.field_basic W.Γ c.args.at (W.text c.args.name) W.text c.resolve-s.result w.if-s-ne0.false w.if-s-lt-NAMED.true)
+          (failed_of _ (W.back _) c.fail.ensures)
+    ]
 
-pub returns-then-s-gt33 : goal.returns-then-s-gt33
-returns-then-s-gt33 c =
+pub returns-then-s-gt-NAMED : goal.returns-then-s-gt-NAMED
+returns-then-s-gt-NAMED c =
     λ W.
-    rw (← c.resolve-s.ensures.is W.text W.Γ.alias W.alias, rules.field_special W.Γ _ _ W.text c.resolve-s.result c.if-s-ne0.false c.if-s-gt33.true)
-    (failed_of _ (W.back _) c.fail-then-s-gt33.ensures)
+    rw (resolved W c.resolve-s.ensures, rules.field_special W.Γ c.args.at (W.text c.args.name) W.text c.resolve-s.result c.if-s-ne0.false c.if-s-gt-NAMED.true)
+    (failed_of _ (W.back _) c.fail-then-s-gt-NAMED.ensures)
 
-pub returns-then-s-lt33 : goal.returns-then-s-lt33
-returns-then-s-lt33 c =
+pub returns-in_default : goal.returns-in_default
+returns-in_default c =
     λ W.
-    rw (← c.resolve-s.ensures.is W.text W.Γ.alias W.alias, rules.field_basic W.Γ _ _ W.text c.resolve-s.result c.if-s-ne0.false c.if-s-lt33.true)
-    (failed_of _ (W.back _) c.fail-then-s-lt33.ensures)
+    let b : c.resolve-s.result.base ≡ 33 = omega arith in
+    let none = found_not (W.fields _ (c.resolve-s.ensures.known c.requires.1 b)) c.in_default.ensures.entry in
+    rw (resolved W c.resolve-s.ensures, rules.field_undeclared W.Γ c.args.at (W.text c.args.name) W.text c.resolve-s.result c.if-s-ne0.false b none)
+    (failed_of _ (W.back _) c.fail-in_default.ensures)
 
-pub overflow_add-e : goal.overflow_add-e
-overflow_add-e c = omega (arith, c.resolve-s.ensures.known c.requires.1 (omega (arith, c.if-s-gt33.false, c.if-s-lt33.false)))
+pub find_port-requires : goal.find_port-requires
+find_port-requires c = ports_led (found (c.requires.0.fields _ (c.resolve-s.ensures.known c.requires.1 (omega arith))) c.in-Some.ensures.entry)
 
-pub offset_bounds-scope-i : goal.offset_bounds-scope-i
-offset_bounds-scope-i c = omega (arith, c.resolve-s.ensures.known c.requires.1 (omega (arith, c.if-s-gt33.false, c.if-s-lt33.false)))
-
-pub bounds-scope-i : goal.bounds-scope-i
-bounds-scope-i c = omega (arith, c.resolve-s.ensures.known c.requires.1 (omega (arith, c.if-s-gt33.false, c.if-s-lt33.false)), c.requires.0.room)
-
-pub returns-then-e-eq0 : goal.returns-then-e-eq0
-returns-then-e-eq0 c =
+pub returns-in_default-find_port : goal.returns-in_default-find_port
+returns-in_default-find_port c =
     λ W.
-    let b : c.resolve-s.result.base ≡ 33 = omega (arith, c.if-s-gt33.false, c.if-s-lt33.false) in
-    let small = c.resolve-s.ensures.known c.requires.1 b in
-    rw (← c.resolve-s.ensures.is W.text W.Γ.alias W.alias, rules.field_undeclared W.Γ _ _ W.text c.resolve-s.result c.if-s-ne0.false b (found_not (W.fields _ small) c.if-e-eq0.true))
-    (failed_of _ (W.back _) c.fail-then-e-eq0.ensures)
+    let b : c.resolve-s.result.base ≡ 33 = omega arith in
+    let w = found (W.fields _ (c.resolve-s.ensures.known c.requires.1 b)) c.in-Some.ensures.entry in
+    rw (resolved W c.resolve-s.ensures, rules.field_missing W.Γ c.args.at (W.text c.args.name) W.text c.resolve-s.result c.if-s-ne0.false b w.is (c.in_default-find_port.ensures.port (ports_led w) (apart W)))
+    (failed_of _ (W.back _) c.fail-in_default-find_port.ensures)
 
-pub find_port-p-requires : goal.find_port-p-requires
-find_port-p-requires c =
+pub read_type-requires : goal.read_type-requires
+read_type-requires c =
     let W = c.requires.0 in
-    let small = c.resolve-s.ensures.known c.requires.1 (omega (arith, c.if-s-gt33.false, c.if-s-lt33.false)) in
-    ports_led (leads (Listed (source _ _ W.text)) (W.fields _ small) c.if-e-eq0.false)
-
-pub returns-then-p-eq0 : goal.returns-then-p-eq0
-returns-then-p-eq0 c =
-    λ W.
-    let b : c.resolve-s.result.base ≡ 33 = omega (arith, c.if-s-gt33.false, c.if-s-lt33.false) in
-    let w = leads (Listed (source _ _ W.text)) (W.fields _ (c.resolve-s.ensures.known c.requires.1 b)) c.if-e-eq0.false in
-    let f = (c.find_port-p.ensures (ports_led w) (apart W)).absent c.if-p-eq0.true in
-    rw (← c.resolve-s.ensures.is W.text W.Γ.alias W.alias, rules.field_missing W.Γ _ _ W.text c.resolve-s.result c.if-s-ne0.false b w.is f)
-    (failed_of _ (W.back _) c.fail-then-p-eq0.ensures)
-
-pub overflow_add-p : goal.overflow_add-p
-overflow_add-p c =
-    let W = c.requires.0 in
-    let small = c.resolve-s.ensures.known c.requires.1 (omega (arith, c.if-s-gt33.false, c.if-s-lt33.false)) in
-    let w = leads (Listed (source _ _ W.text)) (W.fields _ small) c.if-e-eq0.false in
-    omega (arith, type_in ((c.find_port-p.ensures (ports_led w) (apart W)).present c.if-p-eq0.false).2)
-
-pub type_at-requires : goal.type_at-requires
-type_at-requires c =
-    let W = c.requires.0 in
-    let small = c.resolve-s.ensures.known c.requires.1 (omega (arith, c.if-s-gt33.false, c.if-s-lt33.false)) in
-    let w = leads (Listed (source _ _ W.text)) (W.fields _ small) c.if-e-eq0.false in
-    record { text = W.text; t = _; typed = ((c.find_port-p.ensures (ports_led w) (apart W)).present c.if-p-eq0.false).2 }
+    let w = found (W.fields _ (c.resolve-s.ensures.known c.requires.1 (omega arith))) c.in-Some.ensures.entry in
+    type_there (c.in-Some-find_port.ensures.port (ports_led w) (apart W)).2
 
 pub returns : goal.returns
 returns c =
     λ W.
-    let b : c.resolve-s.result.base ≡ 33 = omega (arith, c.if-s-gt33.false, c.if-s-lt33.false) in
-    let w = leads (Listed (source _ _ W.text)) (W.fields _ (c.resolve-s.ensures.known c.requires.1 b)) c.if-e-eq0.false in
-    let f = (c.find_port-p.ensures (ports_led w) (apart W)).present c.if-p-eq0.false in
-    rw (← c.resolve-s.ensures.is W.text W.Γ.alias W.alias)
-    (gave (c.type_at.ensures (record { text = W.text; t = f.0; typed = f.2 })) (rules.field_there W.Γ _ _ W.text c.resolve-s.result c.if-s-ne0.false b w.is f.1))
+    let b : c.resolve-s.result.base ≡ 33 = omega arith in
+    let w = found (W.fields _ (c.resolve-s.ensures.known c.requires.1 b)) c.in-Some.ensures.entry in
+    let f = c.in-Some-find_port.ensures.port (ports_led w) (apart W) in
+    rw (← c.resolve-s.ensures.is W.text W.Γ.alias W.alias) (gave (read_is f.2 c.read_type.ensures) (rules.field_there W.Γ _ _ W.text c.resolve-s.result c.if-s-ne0.false b w.is f.1))

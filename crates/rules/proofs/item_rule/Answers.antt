@@ -1,11 +1,11 @@
 -- `rules::item_rule` meets its contract. Assumes nothing.
-use mathlib.Core.Path.{refl, sym, ◌∙◌}
+use mathlib.Core.Path.{◌∙◌}
 use Rattle.lines.proofs.Laws.{noted_plain, said_pass, said_refuse}
-use Rattle.rules.proofs.Laws.{apart}
+use Rattle.rules.proofs.Laws.{agreed}
 use Rattle.rules.proofs.item_rule.Goals as goal
 
-pub returns-then-compatible : goal.returns-then-compatible
-returns-then-compatible c = (refl, λ W. said_pass _ (sym (c.compatible.ensures W.text (apart W) W.Γ.alias W.alias) ∙ c.if-compatible.true))
+pub returns-then-not-fits : goal.returns-then-not-fits
+returns-then-not-fits c = λ W. rw c.if-not-fits.true (said_refuse (agreed W _ _ c.compatible-fits.ensures ∙ c.if-not-fits.true) (noted_plain c.put.ensures))
 
-pub returns : goal.returns
-returns c = (refl, λ W. said_refuse (sym (c.compatible.ensures W.text (apart W) W.Γ.alias W.alias) ∙ c.if-compatible.false) (noted_plain c.put_line-m.ensures))
+pub returns-else-not-fits : goal.returns-else-not-fits
+returns-else-not-fits c = λ W. rw c.if-not-fits.false (said_pass _ (agreed W _ _ c.compatible-fits.ensures ∙ c.if-not-fits.false))

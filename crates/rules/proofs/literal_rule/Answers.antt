@@ -1,18 +1,16 @@
 -- `rules::literal_rule` meets its contract. Assumes nothing.
-use native.Mathlib.Omega.{arith}
-use mathlib.Core.Path.{refl, sym, ap, ◌∙◌}
+use mathlib.Core.Path.{sym, ap, ◌∙◌}
 use Rattle.lustre.specs.Line.{return}
 use Rattle.types.proofs.Values.{bottom_basic}
-use Rattle.rules.proofs.Laws.{returned, failed}
+use Rattle.rules.proofs.Laws.{returned_basic, failed}
 use Rattle.rules.proofs.Rules as rules
 use Rattle.rules.proofs.literal_rule.Goals as goal
 
-pub returns-then-k-eq-NO_TYPE : goal.returns-then-k-eq-NO_TYPE
-returns-then-k-eq-NO_TYPE c = λ num ρ t h. rw (rules.literal_untyped _ h c.if-k-eq-NO_TYPE.true) (failed c.fail_plain.ensures)
-
-pub returns : goal.returns
-returns c =
+pub returns-in-Some : goal.returns-in-Some
+returns-in-Some c =
     λ num ρ t h.
-    let b = c.bottom_of-typ.ensures in
-    returned _ (omega (arith, b.flat)) (λ e. omega (arith, b.name)) refl
-    (rules.literal_typed _ h c.if-k-eq-NO_TYPE.false ∙ ap return (sym (b.is ρ ∙ bottom_basic ρ _ 0 h.no_name h.no_tuple)))
+    let i = rw c.in-Some.is at h in
+    returned_basic c.bottom.ensures (λ e. i.no_name (cc)) (rules.literal_typed _ i ∙ ap return (sym (bottom_basic ρ _ 0 (λ e. i.no_name (cc)) (λ e. i.no_tuple (cc)))))
+
+pub returns-in-None : goal.returns-in-None
+returns-in-None c = λ num ρ t h. rw (rules.literal_untyped _ (rw c.in-None.is at h)) (failed c.fail.ensures)

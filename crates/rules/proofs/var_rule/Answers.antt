@@ -1,47 +1,47 @@
--- `rules::var_rule` meets its contract: an entry of each table leads to what the name means. Assumes nothing.
+-- `rules::var_rule` meets its contract: what the entry that is there leads to. Assumes nothing.
 use native.Mathlib.Omega.{arith}
-use mathlib.Core.Path.{refl, sym, ap, ◌∙◌}
-use Rattle.lustre.specs.Name.{Name}
-use Rattle.lustre.specs.Types.{Named}
+use mathlib.Core.Path.{ap, sym, ◌∙◌}
 use Rattle.lustre.specs.Line.{return}
 use Rattle.types.specs.Value.{bottom}
-use Rattle.rules.proofs.Laws.{returned, gave, failed_of, found_not, found}
-use Rattle.rules.proofs.Rules as rules
-use Rattle.rules.proofs.Variables.{entered, typed, no_entry}
+use Rattle.rules.proofs.Laws.{gave, returned, failed_of, found, found_not}
+use Rattle.rules.proofs.Places.{type_there, read_is}
+use Rattle.rules.proofs.Rules.{var_port, var_constant, var_variant, var_absent}
 use Rattle.rules.proofs.var_rule.Goals as goal
 
-pub typed_at-p-requires : goal.typed_at-p-requires
-typed_at-p-requires c = (omega (arith, c.requires.0.room), c.requires.1)
+pub read_type-requires : goal.read_type-requires
+read_type-requires c = type_there (found (c.requires.0.port _ c.requires.1) c.in-Some.ensures.entry).there
 
-pub type_at-requires : goal.type_at-requires
-type_at-requires c = typed (entered c.requires.0 _ c.requires.1 c.typed_at-p.ensures c.if-p-ne0.true)
+pub returns-in-Some : goal.returns-in-Some
+returns-in-Some c = λ W. let w = found (W.port _ c.requires.1) c.in-Some.ensures.entry in gave (read_is w.there c.read_type.ensures) (var_port W.Γ _ _ w.is)
 
-pub returns-then-p-ne0 : goal.returns-then-p-ne0
-returns-then-p-ne0 c =
+pub read_type-requires-in-Some-declared : goal.read_type-requires-in-Some-declared
+read_type-requires-in-Some-declared c = type_there (found (c.requires.0.constant _ c.requires.1) c.in-Some-declared.ensures.entry).there
+
+pub returns-in-Some-declared : goal.returns-in-Some-declared
+returns-in-Some-declared c =
     λ W.
-    let v = entered W _ c.requires.1 c.typed_at-p.ensures c.if-p-ne0.true in
-    gave (c.type_at.ensures (typed v)) (v.is _)
+    let w = found (W.constant _ c.requires.1) c.in-Some-declared.ensures.entry in
+    gave (read_is w.there c.read_type-in-Some-declared.ensures) (var_constant W.Γ _ _ (found_not (W.port _ c.requires.1) c.in_default.ensures.entry) w.is)
 
-pub offset_bounds-words-j : goal.offset_bounds-words-j
-offset_bounds-words-j c = let W = c.requires.0 in let w = found (W.variant _ c.requires.1) c.if-v-ne0.true in omega (arith, w.there.head.in_words)
+pub offset_bounds-ctx-variant : goal.offset_bounds-ctx-variant
+offset_bounds-ctx-variant c = omega (arith, (found (c.requires.0.variant _ c.requires.1) c.in-Some-declared-2.ensures.entry).there.head.in_words)
 
-pub bounds-words-j : goal.bounds-words-j
-bounds-words-j c = let W = c.requires.0 in let w = found (W.variant _ c.requires.1) c.if-v-ne0.true in omega (arith, w.there.head.in_words)
+pub bounds-ctx-variant : goal.bounds-ctx-variant
+bounds-ctx-variant c = (found (c.requires.0.variant _ c.requires.1) c.in-Some-declared-2.ensures.entry).there.head.in_words
 
-pub returns-then-v-ne0 : goal.returns-then-v-ne0
+pub returns-in-Some-declared-2 : goal.returns-in-Some-declared-2
 unfolding bottom
-returns-then-v-ne0 c =
+returns-in-Some-declared-2 c =
     λ W.
-    let w = found (W.variant _ c.requires.1) c.if-v-ne0.true in
-    let b = c.bottom_of-typ.ensures in
-    let v = no_entry W _ c.requires.1 c.typed_at-p.ensures (omega (arith, c.if-p-ne0.false)) in
-    returned _ (omega (arith, b.flat)) (λ h. omega (arith, b.name, w.there.name.small)) refl
-    (rules.var_variant W.Γ _ _ v.0 v.1 w.is
-    ∙ ap (λ (x : Name). return (Named x)) (sym w.there.name.text) ∙ ap return (sym (b.is W.text)))
+    let w = found (W.variant _ c.requires.1) c.in-Some-declared-2.ensures.entry in
+    let b = c.bottom.ensures in
+    returned _ (omega (arith, b.flat)) (λ h. omega (arith, b.name, w.there.name.small))
+    (var_variant W.Γ _ _ (found_not (W.port _ c.requires.1) c.in_default.ensures.entry) (found_not (W.constant _ c.requires.1) c.in_default-declared.ensures.entry) w.is
+    ∙ ap return (rw (← w.there.name.text) (sym (b.is W.text))))
 
 pub returns : goal.returns
 returns c =
     λ W.
-    let v = no_entry W _ c.requires.1 c.typed_at-p.ensures (omega (arith, c.if-p-ne0.false)) in
-    rw (rules.var_absent W.Γ _ _ v.0 v.1 (found_not (W.variant _ c.requires.1) (omega (arith, c.if-v-ne0.false))))
+    let s = c.requires.1 in
+    rw (var_absent W.Γ c.args.at (W.text c.args.name) (found_not (W.port _ s) c.in_default.ensures.entry) (found_not (W.constant _ s) c.in_default-declared.ensures.entry) (found_not (W.variant _ s) c.in_default-declared-2.ensures.entry))
     (failed_of _ (W.back _) c.fail.ensures)

@@ -1,10 +1,11 @@
 -- `scope::repeated_name` meets its contract. Assumes nothing.
-use mathlib.Core.Path.{sym, ◌∙◌}
+use mathlib.Core.Path.{sym}
+use Rattle.std.proofs.lemmas.Bool.{not-false, not-true}
 use Rattle.lines.proofs.Laws.{noted_none, noted_about}
 use Rattle.scope.proofs.repeated_name.Goals as goal
 
-pub returns-then-has_name : goal.returns-then-has_name
-returns-then-has_name c = ((λ num x e. rw (sym c.has_name.ensures ∙ c.if-has_name.true) (noted_about x e c.put_line.ensures)), c.connect.ensures)
+pub returns-then-not-insert-clause-noted : goal.returns-then-not-insert-clause-noted
+returns-then-not-insert-clause-noted c = λ num x e. rw (not-false _ (sym c.if-not-insert.ensures.fresh)) (noted_about x e c.put.ensures)
 
-pub returns : goal.returns
-returns c = ((λ num x e. rw (sym c.has_name.ensures ∙ c.if-has_name.false) noted_none), c.connect-2.ensures)
+pub returns-else-not-insert-clause-noted : goal.returns-else-not-insert-clause-noted
+returns-else-not-insert-clause-noted c = λ num x e. rw (not-true _ (sym c.if-not-insert.ensures.fresh)) noted_none

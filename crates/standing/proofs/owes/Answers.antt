@@ -1,86 +1,47 @@
--- `standing::owes` meets its contract: what the code reads and knows is the table of specs/Owed.antt, by one test over each piece of it.
+-- `standing::owes` meets its contract: where an arm takes several kinds, one test tells it of each of them.
 -- Assumes nothing.
-use Prim.Native.Nat.{ℕ, ◌-◌, ◌≤◌, ◌<◌}
-use mathlib.Core.Path.{◌≡◌, refl, sym, ◌∙◌}
-use mathlib.Core.Bool.{◌||◌}
-use mathlib.Core.List.{List}
+use Prim.Native.Nat.{ℕ, ◌≤◌, ◌<◌}
+use mathlib.Core.Path.{◌≡◌, refl}
+use mathlib.Core.Bool.{Bool, true, ◌||◌}
 use native.Mathlib.Omega.{arith}
 use lib.Dec.{eqb, ltb}
-use lib.ListN.{get_or, drop}
-use borrow.Author.Tests.{eqb-true, eq-eqb, ne_eqb, le-ltb}
+use lib.ListN.{get_or}
+use borrow.Author.Tests.{eqb-true, ne_eqb, le-ltb}
 use Rattle.standing.specs.Owed.{owed, by_word, owes}
-use Rattle.standing.proofs.Below.{below}
+use Rattle.standing.proofs.Below.{up_to, below}
 use Rattle.standing.proofs.owes.Goals as goal
 
-by-its-word : (k w : ℕ) → get_or owed k 0 ≡ by_word → w ≡ owes k w
+-- the kinds from a to b, but for x and y, all have the entry n
+abbrev all : (a b x y n : ℕ) → ℕ → Bool
+all a b x y n k = ltb k a || (eqb k x || (eqb k y || eqb (get_or owed k 0) n))
+
+entry : (a b x y n k : ℕ) → up_to (all a b x y n) b ≡ true → a ≤ k → k < b → (k ≡ x → ⊥) → (k ≡ y → ⊥) → get_or owed k 0 ≡ n
+entry a b x y n k t l h f g = eqb-true _ _ (rw (le-ltb k a l, ne_eqb k x f, ne_eqb k y g) at (below (all a b x y n) b t k h))
+
+same_for : (a b x y n k w : ℕ) → up_to (all a b x y n) b ≡ true → a ≤ k → k < b → (k ≡ x → ⊥) → (k ≡ y → ⊥) → (n ≡ by_word → ⊥) → n ≡ owes k w
 unfolding owes
-by-its-word k w h = rw (eq-eqb (get_or owed k 0) by_word h)
+same_for a b x y n k w t l h f g u = let e = entry a b x y n k t l h f g in rw (e, ne_eqb n by_word u)
 
-by-its-kind : (k w : ℕ) → (get_or owed k 0 ≡ by_word → ⊥) → get_or owed k 0 ≡ owes k w
-unfolding owes
-by-its-kind k w h = rw (ne_eqb (get_or owed k 0) by_word h)
-
--- an entry that is no word's
-known : (k w v : ℕ) → v ≡ get_or owed k 0 → (v ≡ by_word → ⊥) → v ≡ owes k w
-known k w v e n = e ∙ by-its-kind k w (λ h. n (e ∙ h))
-
-of-list : (k w : ℕ) → k ≡ 3 → w ≡ owes k w
+pub returns-in-47-to-66 : goal.returns-in-47-to-66
 unfolding owed
-of-list k w q = by-its-word k w (rw q)
+returns-in-47-to-66 c = same_for 47 67 0 0 2 _ _ refl (omega arith) (omega arith) (λ e. omega arith) (λ e. omega arith) (λ e. omega (arith, e))
 
-before-types : (k : ℕ) → k < 32 → (k ≡ 3 → ⊥) → 0 ≡ get_or owed k 0
+pub returns-in_default : goal.returns-in_default
 unfolding owed
-before-types k b n = eqb-true _ _ (rw (ne_eqb k 3 n) at (below (λ j. eqb j 3 || eqb 0 (get_or owed j 0)) 32 refl k b))
+returns-in_default c = same_for 0 45 3 32 0 _ _ refl (omega arith) (omega arith) (λ e. grind (arith, e)) (λ e. grind (arith, e)) (λ e. omega (arith, e))
 
-array-type : (k : ℕ) → k ≡ 32 → 1 ≡ get_or owed k 0
+pub returns-in-77-2 : goal.returns-in-77-2
 unfolding owed
-array-type k q = rw q
+returns-in-77-2 c = same_for 77 79 0 0 1 _ _ refl (grind arith) (omega arith) (λ e. grind (arith, e)) (λ e. grind (arith, e)) (λ e. omega (arith, e))
 
-leaves : (k : ℕ) → 32 ≤ k → k < 45 → (k ≡ 32 → ⊥) → 0 ≡ get_or owed k 0
+pub returns-in-32-2 : goal.returns-in-32-2
 unfolding owed
-leaves k a b n = eqb-true _ _ (rw (le-ltb k 32 a, ne_eqb k 32 n) at (below (λ j. ltb j 32 || (eqb j 32 || eqb 0 (get_or owed j 0))) 45 refl k b))
+returns-in-32-2 c = same_for 45 47 0 0 1 _ _ refl (omega arith) (omega arith) (λ e. omega arith) (λ e. omega arith) (λ e. omega (arith, e))
 
-ones : (k : ℕ) → 45 ≤ k → k < 47 → 1 ≡ get_or owed k 0
+pub returns-in-68-2 : goal.returns-in-68-2
 unfolding owed
-ones k a b = eqb-true _ _ (rw (le-ltb k 45 a) at (below (λ j. ltb j 45 || eqb 1 (get_or owed j 0)) 47 refl k b))
+returns-in-68-2 c = same_for 67 72 67 69 1 _ _ refl (omega arith) (omega arith) (λ e. grind (arith, e)) (λ e. grind (arith, e)) (λ e. omega (arith, e))
 
-twos : (k : ℕ) → 47 ≤ k → k < 67 → 2 ≡ get_or owed k 0
-unfolding owed
-twos k a b = eqb-true _ _ (rw (le-ltb k 47 a) at (below (λ j. ltb j 47 || eqb 2 (get_or owed j 0)) 67 refl k b))
-
--- the code's table
-unfoldable later : List ℕ
-later = drop 67 owed
-
-rest : (k : ℕ) → 67 ≤ k → k < 85 → get_or later (k - 67) 0 ≡ get_or owed k 0
-unfolding owed later
-rest k a b = eqb-true _ _ (rw (le-ltb k 67 a) at (below (λ j. ltb j 67 || eqb (get_or later (j - 67) 0) (get_or owed j 0)) 85 refl k b))
-
-pub returns-then-kind-eq3 : goal.returns-then-kind-eq3
-returns-then-kind-eq3 c = of-list _ _ c.if-kind-eq3.true
-
-pub returns-then-kind-lt32 : goal.returns-then-kind-lt32
-returns-then-kind-lt32 c = known _ _ 0 (before-types _ c.if-kind-lt32.true c.if-kind-eq3.false) (λ h. omega (arith, h))
-
-pub returns-then-kind-eq32 : goal.returns-then-kind-eq32
-returns-then-kind-eq32 c = known _ _ 1 (array-type _ c.if-kind-eq32.true) (λ h. omega (arith, h))
-
-pub returns-then-kind-lt45 : goal.returns-then-kind-lt45
-returns-then-kind-lt45 c = known _ _ 0 (leaves _ c.if-kind-lt32.false c.if-kind-lt45.true c.if-kind-eq32.false) (λ h. omega (arith, h))
-
-pub returns-then-kind-lt47 : goal.returns-then-kind-lt47
-returns-then-kind-lt47 c = known _ _ 1 (ones _ c.if-kind-lt45.false c.if-kind-lt47.true) (λ h. omega (arith, h))
-
-pub returns-then-kind-lt67 : goal.returns-then-kind-lt67
-returns-then-kind-lt67 c = known _ _ 2 (twos _ c.if-kind-lt47.false c.if-kind-lt67.true) (λ h. omega (arith, h))
-
-pub overflow_sub-n : goal.overflow_sub-n
-overflow_sub-n c = c.if-kind-lt67.false
-
-pub returns-then-n-eq-BY_WORD : goal.returns-then-n-eq-BY_WORD
-unfolding later owed
-returns-then-n-eq-BY_WORD c = by-its-word _ _ (sym (rest _ c.if-kind-lt67.false c.requires) ∙ c.if-n-eq-BY_WORD.true)
-
-pub returns-else-n-eq-BY_WORD : goal.returns-else-n-eq-BY_WORD
-unfolding later owed
-returns-else-n-eq-BY_WORD c = let e = rest _ c.if-kind-lt67.false c.requires in e ∙ by-its-kind _ _ (λ h. c.if-n-eq-BY_WORD.false (e ∙ h))
+pub returns-in-3-2 : goal.returns-in-3-2
+unfolding owed owes
+returns-in-3-2 c = let e = entry 73 75 0 0 by_word c.args.kind refl (grind arith) (omega arith) (λ e. omega arith) (λ e. omega arith) in rw e

@@ -1,10 +1,7 @@
 -- The lines so far are laid over those lent.
-use Rattle.std.proofs.Common.{◌-◌, ◌≡◌, ◌≤◌}
+use Rattle.std.proofs.Common.{◌≡◌}
 use Rattle.stored.specs.Laid.{laid}
 use Rattle.stored.proofs.fill.Given as goal
 
 abbrev pub invariant-loop-i : goal.invariant-loop-i
-invariant-loop-i l = record { within : l.i ≤ l.count; stored : l.lines ≡ laid l.fn.lines l.at l.flat l.i }
-
-abbrev pub decreases-loop-i : goal.decreases-loop-i
-decreases-loop-i l = l.count - l.i
+invariant-loop-i l = l.lines ≡ laid l.fn.lines l.at l.flat l.i

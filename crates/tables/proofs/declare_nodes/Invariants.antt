@@ -1,14 +1,8 @@
--- `declare_nodes` meets its contract. The invariant is `Declaring` of proofs/Nodes.antt at the next record, for every model; the measure is
--- the number of records left. Assumes nothing.
-use Prim.Native.Nat.{◌-◌, ◌<◌}
-use mathlib.Core.Path.{◌≡◌}
-use lib.ListN.{length}
+-- The loop of `tables::declare_nodes`: `Declaring` of proofs/Nodes.antt at the next record, for every model. Assumes nothing.
+use Rattle.std.specs.Prelude.{◌<◌}
 use Rattle.tables.specs.Entered.{TypesTabled}
 use Rattle.tables.proofs.Nodes.{Declaring}
 use Rattle.tables.proofs.declare_nodes.Given as goal
 
-abbrev pub invariant-loop-i : goal.invariant-loop-i
-invariant-loop-i l = (length l.scope ≡ 3072) × (length l.out ≡ length l.initial.out) × (l.number < l.i) × ((g : TypesTabled l.kinds l.words l.initial.scope) → Declaring g.model l.first l.initial.out l.n l.i l.number l.m l.scope l.out)
-
-abbrev pub decreases-loop-i : goal.decreases-loop-i
-decreases-loop-i l = length l.kinds - l.i
+abbrev pub invariant-loop-at : goal.invariant-loop-at
+invariant-loop-at l = (l.number < l.at) × ((g : TypesTabled l.records.kinds.now l.records.words.now l.initial.scope.entries) → Declaring g.model l.initial.lines l.at l.number l.scope.entries l.lines)

@@ -1,25 +1,26 @@
 -- `rules::iterators::fold_end` meets its contract. Assumes nothing.
 use mathlib.Core.Path.{sym, ◌∙◌}
 use Rattle.lines.proofs.Laws.{said_return}
-use Rattle.rules.proofs.Laws.{apart, maybe_no, maybe_yes, refused, after, passed}
 use Rattle.lustre.specs.Infer.{seed_agrees}
 use Rattle.rules.specs.Iterators.{fold_end}
+use Rattle.rules.proofs.Laws.{false_true, agreed, refused, passed, after}
 use Rattle.rules.proofs.iterators.fold_end.Goals as goal
+use Rattle.rules.proofs.iterators.fold_end.Goals.{in-Some, in-None}
 
-pub returns-then-compatible : goal.returns-then-compatible
+pub returns-then-not-agrees : goal.returns-then-not-agrees
 unfolding fold_end seed_agrees
-returns-then-compatible c =
+returns-then-not-agrees c =
     λ W ds ps f.
-    rw (maybe_yes W.text c.args.seed.typ c.if-seed.true)
-    (passed _ (sym (c.compatible.ensures W.text (apart W) W.Γ.alias W.alias) ∙ c.if-compatible.true) (c.element_rule.ensures W ds ps f))
-
-pub returns-then-seed : goal.returns-then-seed
-unfolding fold_end seed_agrees
-returns-then-seed c =
-    λ W ds ps f.
-    rw (maybe_yes W.text c.args.seed.typ c.if-seed.true)
-    (refused _ (sym (c.compatible.ensures W.text (apart W) W.Γ.alias W.alias) ∙ c.if-compatible.false) c.fail_plain.ensures)
+    elim c.match-seed.branch [
+      | in-Some w ↦ rw w.in-Some.is (refused _ (agreed W _ _ w.compatible-agrees.ensures ∙ sym w.agrees-is ∙ c.if-not-agrees.true) c.fail.ensures)
+      | in-None w ↦ false_true (sym c.if-not-agrees.true ∙ w.agrees-is)
+    ]
 
 pub returns : goal.returns
 unfolding fold_end seed_agrees
-returns c = λ W ds ps f. rw (maybe_no W.text c.args.seed.typ c.if-seed.false) (after (said_return tt) (c.element_rule-2.ensures W ds ps f))
+returns c =
+    λ W ds ps f.
+    elim c.match-seed.branch [
+      | in-Some w ↦ rw w.in-Some.is (passed _ (agreed W _ _ w.compatible-agrees.ensures ∙ sym w.agrees-is ∙ c.if-not-agrees.false) (c.element_rule.ensures W ds ps f))
+      | in-None w ↦ rw w.in-None.is (after (said_return tt) (c.element_rule.ensures W ds ps f))
+    ]

@@ -1,42 +1,41 @@
--- `rules::structs::missing` meets its contract. The invariant: the notes on the fields that are left are all that is missing. The measure
--- is their number. Assumes nothing.
+-- `rules::structs::missing` meets its contract. Assumes nothing.
 use native.Mathlib.Omega.{arith}
-use mathlib.Core.Path.{◌≡◌, refl}
+use Rattle.lines.proofs.Laws.{noted_none, noted_named}
 use Rattle.rules.proofs.PortLaws.{left_first, left_type}
 use Rattle.rules.proofs.StructLaws.{missed_start, missed_next, missed_end}
 use Rattle.rules.proofs.structs.missing.Goals as goal
+use Rattle.rules.proofs.structs.missing.Goals.{then-not-contains, else-not-contains}
 
-pub offset_bounds-words-list : goal.offset_bounds-words-list
-offset_bounds-words-list c = omega (arith, c.requires.listed.stand.head.in_words)
+pub loop-init : goal.loop-init
+loop-init c = λ g. missed_start g
 
-pub bounds-words-list : goal.bounds-words-list
-bounds-words-list c = c.requires.listed.stand.head.in_words
+pub offset_bounds-records-next : goal.offset_bounds-records-next
+offset_bounds-records-next c = omega (arith, (left_first (c.loop.invariant c.requires).ports c.loop-test.true).head.in_words)
 
-pub overflow_add-next : goal.overflow_add-next
-overflow_add-next c = omega (arith, c.requires.listed.stand.head.in_kinds)
+pub bounds-records-next : goal.bounds-records-next
+bounds-records-next c = (left_first (c.loop.invariant c.requires).ports c.loop-test.true).head.in_words
 
-pub loop-left-init : goal.loop-left-init
-loop-left-init c = (refl, λ g. missed_start g)
+pub contains-requires : goal.contains-requires
+contains-requires c = (left_first (c.loop.invariant c.requires).ports c.loop-test.true).name.small
 
-pub offset_bounds-words-next : goal.offset_bounds-words-next
-offset_bounds-words-next c = omega (arith, (left_first (c.loop-left.invariant.1 c.requires).ports (λ z. omega (arith, c.loop-left-test.true))).head.in_words)
-
-pub bounds-words-next : goal.bounds-words-next
-bounds-words-next c = (left_first (c.loop-left.invariant.1 c.requires).ports (λ z. omega (arith, c.loop-left-test.true))).head.in_words
-
-pub missing_note-m-requires : goal.missing_note-m-requires
-missing_note-m-requires c = (left_first (c.loop-left.invariant.1 c.requires).ports (λ z. omega (arith, c.loop-left-test.true))).name.small
-
-pub overflow_add-next-in-loop-left : goal.overflow_add-next-in-loop-left
-overflow_add-next-in-loop-left c = omega (arith, (left_first (c.loop-left.invariant.1 c.requires).ports (λ z. omega (arith, c.loop-left-test.true))).head.in_kinds)
+pub overflow_add-next-in-loop : goal.overflow_add-next-in-loop
+overflow_add-next-in-loop c = omega (arith, (left_first (c.loop.invariant c.requires).ports c.loop-test.true).head.in_kinds)
 
 pub type_end-next-requires : goal.type_end-next-requires
-type_end-next-requires c = left_type (c.loop-left.invariant.1 c.requires).ports (λ z. omega (arith, c.loop-left-test.true))
+type_end-next-requires c = left_type (c.loop.invariant c.requires).ports c.loop-test.true
 
-pub loop-left-preserved : goal.loop-left-preserved
-loop-left-preserved c =
-    let h : c.loop-left.left ≡ 0 → ⊥ = λ z. omega (arith, c.loop-left-test.true) in
-    (omega arith, λ g. missed_next (c.loop-left.invariant.1 g) h c.missing_note-m.ensures (c.type_end-next.ensures (left_type (c.loop-left.invariant.1 g).ports h)) (omega arith))
+pub loop-preserved : goal.loop-preserved
+loop-preserved c =
+    λ g.
+    let l = c.loop.invariant g in
+    let h = c.loop-test.true in
+    missed_next l h
+    (λ num x e.
+    elim c.if-not-contains.branch [
+      | then-not-contains w ↦ rw (← c.contains.ensures, w.if-not-contains.true, w.lines-is) (noted_named x e w.put.ensures)
+      | else-not-contains w ↦ rw (← c.contains.ensures, w.if-not-contains.false, w.lines-is) noted_none
+    ])
+    (c.type_end-next.ensures (left_type l.ports h))
 
 pub returns : goal.returns
-returns c = λ g num b xs k. missed_end (c.loop-left.invariant.1 g) (omega arith) num b xs k
+returns c = λ g num b xs t. missed_end (c.loop.invariant g) (omega arith) num b xs t

@@ -1,23 +1,13 @@
--- `rules::structs::record_of` meets its contract: the entry leads to the fields. Assumes nothing.
-use mathlib.Core.Path.{refl, sym, ◌∙◌}
-use Rattle.standing.specs.Standing.{source}
+-- `rules::structs::record_of` meets its contract: the entry leads to the record's fields. Assumes nothing.
+use mathlib.Core.Path.{refl}
 use Rattle.lines.proofs.Laws.{noted_named, said_fail}
-use Rattle.rules.specs.World.{Listed}
-use Rattle.rules.proofs.Laws.{false_true, found_not, leads}
 use Rattle.lustre.specs.Infer.{if_found, struct_rule}
+use Rattle.rules.proofs.Laws.{found_not, found}
 use Rattle.rules.proofs.structs.record_of.Goals as goal
 
-pub returns-then-e-eq0 : goal.returns-then-e-eq0
-unfolding struct_rule if_found
-returns-then-e-eq0 c =
-    λ W. record {
-      fit = λ h. false_true (sym c.refuse.ensures.0 ∙ h);
-      unfit = λ _ vs hint. rw (found_not (W.fields _ c.requires.1) c.if-e-eq0.true) (said_fail (noted_named _ (W.back _) c.refuse.ensures.1));
-    }
+pub returns-in-Some : goal.returns-in-Some
+returns-in-Some c = λ W. let w = found (W.fields _ c.requires.1) c.in-Some.ensures.entry in record { fs = w.a; is = w.is; listed = w.there; same = refl }
 
-pub returns : goal.returns
-returns c =
-    λ W. record {
-      fit = λ _. let w = leads (Listed (source _ _ W.text)) (W.fields _ c.requires.1) c.if-e-eq0.false in record { fs = w.a; is = w.is; listed = w.there; same_count = refl; same_out = refl };
-      unfit = λ h. false_true (sym h);
-    }
+pub returns-in-None : goal.returns-in-None
+unfolding struct_rule if_found
+returns-in-None c = λ W. rw c.fail.ensures.none (λ vs hint. rw (found_not (W.fields _ c.requires.1) c.in-None.ensures.entry) (said_fail (noted_named _ (W.back _) c.fail.ensures.put)))

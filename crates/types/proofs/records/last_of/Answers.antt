@@ -1,27 +1,30 @@
--- `types::records::last_of` meets its contract. The invariant: at i stands a type with the arrays not yet passed. Assumes nothing.
+-- `types::records::last_of` meets its contract: it passes the first kinds that are 32. Assumes nothing.
+use Prim.Native.Nat.{◌+◌}
 use native.Mathlib.Omega.{arith}
-use mathlib.Core.Path.{refl}
-use Rattle.types.proofs.Places.{in_kinds, in_words, arrays_array, arrays_bottom, type_next}
+use mathlib.Core.Path.{◌≡◌, ap, ◌∙◌}
+use lib.Dec.{eqb}
+use lib.ListN.{drop}
+use Rattle.std.proofs.Common.{rules, tests}
+use Rattle.std.proofs.lemmas.Iterator.{YieldsList-from_slice}
+use Rattle.std.proofs.lemmas.Iterator.Consumers.{count_from_yields_List, YieldsList-at}
+use Rattle.std.proofs.lemmas.Iterator.Search.{YieldsList-from_take_while}
+use Rattle.std.proofs.lemmas.List.{take_rest}
+use Rattle.std.proofs.lemmas.List.Folds.{length-prefix_len}
+use Rattle.types.specs.Place.{arraysIn}
+use Rattle.types.proofs.Places.{in_kinds, arrays_first, last_in}
 use Rattle.types.proofs.records.last_of.Goals as goal
 
-pub loop-i-init : goal.loop-i-init
-loop-i-init c = (c.requires, refl)
+pub slice_bounds-iter-count : goal.slice_bounds-iter-count
+slice_bounds-iter-count c = omega (arith, in_kinds _ _ _ c.requires)
 
-pub bounds-kinds-i : goal.bounds-kinds-i
-bounds-kinds-i c = in_kinds _ _ _ c.loop-i.invariant.0
-
-pub overflow_add-i : goal.overflow_add-i
-overflow_add-i c = omega (arith, in_kinds _ _ _ c.loop-i.invariant.0)
-
-pub loop-i-smaller : goal.loop-i-smaller
-loop-i-smaller c = omega (arith, in_kinds _ _ _ c.loop-i.invariant.0)
-
-pub loop-i-preserved : goal.loop-i-preserved
-loop-i-preserved c =
-    let v = c.loop-i.invariant in
-    (type_next _ _ _ v.0 c.loop-i-test.true, omega (arith, v.1, arrays_array _ _ _ v.0 c.loop-i-test.true))
+pub slice_bounds-iter-start : goal.slice_bounds-iter-start
+slice_bounds-iter-start c = let h = in_kinds _ _ _ c.requires in search rules
 
 pub returns : goal.returns
 returns c =
-    let v = c.loop-i.invariant in
-    record { behind = omega (arith, v.1, arrays_bottom _ _ _ v.0 c.loop-i-test.false); in_kinds = in_kinds _ _ _ v.0; in_words = in_words _ _ _ v.0 }
+    let ks = drop c.args.at c.args.records.now.kinds.now in
+    let e : c.count.result ≡ arraysIn ks =
+    count_from_yields_List c.take_while.result c.count.result c.count.ensures.ran
+    (YieldsList-from_take_while _ (λ k. eqb k 32) (YieldsList-at c.take_while.ensures.source (YieldsList-from_slice ks (c.iter.ensures.rest ∙ take_rest c.args.records.now.kinds.now c.args.at))) c.take_while.ensures.closure c.take_while.ensures.done (λ x b q k. search (rules, tests)))
+    ∙ length-prefix_len (λ k. eqb k 32) ks ∙ arrays_first ks in
+    last_in _ _ _ c.requires (c.args.at + c.count.result) (ap (λ n. c.args.at + n) e)

@@ -1,5 +1,5 @@
--- `types::records::read_type` meets its contract. The invariant: the lengths read are around the last record's type as the records from i
--- on have them. Assumes nothing.
+-- `types::records::read_type` meets its contract. The invariant: the lengths read are around the last record's type as the records from
+-- there on have them. Assumes nothing.
 use Prim.Native.Nat.{◌-◌}
 use native.Mathlib.Omega.{arith}
 use mathlib.Core.Path.{◌≡◌, refl, sym}
@@ -12,21 +12,22 @@ pub loop-i-init : goal.loop-i-init
 unfolding up
 loop-i-init c =
     let e = c.last_of-last.ensures.behind in
-    (omega arith, omega arith, refl, λ ρ. sym (last_type _ _ _ c.requires _ e ρ))
+    let z : c.last_of-last.result - 0 ≡ c.last_of-last.result = omega arith in
+    record { room = refl; read = λ ρ. rw z (sym (last_type _ _ _ c.requires _ e ρ)) }
 
 pub overflow_cast-lengths : goal.overflow_cast-lengths
-overflow_cast-lengths c = record { fits = inner_small _ _ _ c.requires (c.loop-i.i - 1) (omega arith) (omega (arith, c.last_of-last.ensures.behind)) }
+overflow_cast-lengths c = record { fits = inner_small _ _ _ c.requires (c.last_of-last.result - 1 - c.loop-i.i) (omega arith) (omega (arith, c.last_of-last.ensures.behind)) }
 
 pub loop-i-preserved : goal.loop-i-preserved
 loop-i-preserved c =
-    let p = c.requires in
     let l = c.loop-i in
-    let v = l.invariant in
-    (omega arith, omega arith, simp length-set v.2, read_more _ _ _ p _ c.last_of-last.ensures.behind l.lengths l.levels l.i (omega arith) (omega arith) (omega arith) v.3)
+    record { room = simp length-set l.invariant.room; read = read_more _ _ _ c.requires _ c.last_of-last.ensures.behind l.lengths l.i (omega arith) c.loop-i-test.true l.invariant.read }
 
 pub returns : goal.returns
 unfolding asTy
 returns c =
     let l = c.loop-i in
-    let e : l.i ≡ c.args.at = omega arith in
-    read_all _ _ _ c.requires _ c.last_of-last.ensures.behind refl refl (omega arith) (λ ρ. rw e at (l.invariant.3 ρ))
+    let b = c.last_of-last.ensures.behind in
+    let e : c.last_of-last.result - c.args.at ≡ l.i = omega arith in
+    let z : c.last_of-last.result - l.i ≡ c.args.at = omega (arith, b) in
+    read_all _ _ _ c.requires _ b refl refl (omega (arith, b)) (λ ρ. rw e (rw z at (l.invariant.read ρ)))

@@ -1,9 +1,0 @@
--- `cases::same_bytes`: it stays within its buffers and ends.
-use Rattle.std.proofs.Common.{◌-◌, ◌≤◌}
-use Rattle.cases.proofs.same_bytes.Given as goal
-
-abbrev pub invariant-loop-i : goal.invariant-loop-i
-invariant-loop-i l = l.i ≤ l.n
-
-abbrev pub decreases-loop-i : goal.decreases-loop-i
-decreases-loop-i l = l.n - l.i

@@ -1,0 +1,2 @@
+pub mod Stop
+pub mod Lines
