@@ -3,24 +3,20 @@
 // fit its buffers.
 #![tactic(auto)]
 
-use cases::{LINES, Stop, read_part, read_size};
-use lustre::Line;
+use cases::{FILE, Stop, read_part, read_size};
+use lustre::{LINES, Line};
+use response::OUT;
 use std::io;
 use std::io::Read;
 
-// Room for a file of a few bytes more than any that is not refusal 1.
-const FILE: usize = 60000;
-
 // The most work words that a model is lent.
 const WORK: usize = 65536;
-
-// Room for what is printed: a header of at most 57 bytes and 1,024 lines of at most 171.
-const OUT: usize = 175161;
 
 // The most models that are read.
 const MOST: u64 = 100000000;
 
 // Memory for the models, one after the other.
+// Kept: plain arrays, of which `read_part` lends the filled part; an `ArrayVec` would be filled first.
 #[derive(Drop)]
 struct Buffers {
     file: [u8; FILE],

@@ -14,7 +14,7 @@ ghost use Rattle.body.specs.Body.{Side, notes, temporal_kind, iterator_kind, rea
 
 use lines::{Lines, Spot};
 use loops::NameSet;
-use lustre::{NONE, Records, codes, kinds};
+use lustre::{NONE, NameId, Records, codes, kinds};
 use standing::{owes, skip};
 
 // Whether a record is a temporal operator.
@@ -25,6 +25,7 @@ fn is_temporal(kind: u8) -> bool
 }
 
 // Whether a right-hand side of these kinds has a temporal operator: `Expr::contains_temporal`, expr.rs 431.
+// Kept: what stands in the records is asked, here and below, and is no ghost fact: it is data, and a ghost fact has one proof alone.
 pub fn contains_temporal(kinds: &[u8]) -> bool
     requires { Side kinds.now }
     ensures { (g : Side kinds.now) → result ≡ contains_temporal g.whole.e }
@@ -77,7 +78,7 @@ pub fn check_pre(side: &Records, at: usize, under: bool, q: Spot, lines: &mut Li
 {
     let mut next = at;
     let mut left: u64 = 1;
-    // Kept: the walk ends where nothing is owed, so that no number of turns is known before it.
+    // Kept: a `pre` and an arrow are passed in the middle of the walk, so a `for` would have its iterator changed inside.
     while left > 0 {
         match side.kinds[next] {
             kinds::PRE => {
@@ -112,7 +113,7 @@ fn note_read(kind: u8, word: u64, row: &mut NameSet)
     ensures { (text : ℕ → Name) → WithNames text (if reading_kind kind then text word ∷ [] else []) row.old.bits row.new.bits }
 {
     if is_read(kind) {
-        row.insert(word);
+        row.insert(NameId { number: word });
     }
 }
 
@@ -124,7 +125,7 @@ pub fn immediate_reads(records: &Records, at: usize, row: &mut NameSet) -> usize
 {
     let mut next = at;
     let mut left: u64 = 1;
-    // Kept: the walk ends where nothing is owed, so that no number of turns is known before it.
+    // Kept: a `pre` is passed in the middle of the walk, so a `for` would have its iterator changed inside.
     while left > 0 {
         let kind = records.kinds[next];
         if kind == kinds::PRE {

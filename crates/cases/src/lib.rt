@@ -9,15 +9,15 @@ ghost use Rattle.std.specs.IoError.{error_kind};
 ghost use Rattle.cases.specs.Lines.{blank};
 ghost use Rattle.cases.specs.Stop.{stop_of, finished};
 
-use lustre::Line;
+use lustre::{LINES, Line};
 use std::io;
 use std::io::{ErrorKind, Read};
 
 // The mark at place 0; those behind it are larger.
 const MARK: u64 = 0x5555555555555555;
 
-// The lines of a report by value.
-pub const LINES: usize = 1024;
+// Room for a file of a few bytes more than any that is not refusal 1.
+pub const FILE: usize = 60000;
 
 // Why no case is read: the input ends or the next case does not fit its buffers, or reading or printing failed.
 #[derive(Drop)]
@@ -60,14 +60,21 @@ pub fn read_part<'a, R: Read>(
     Ok(part)
 }
 
+// Reads as many bytes as the array has.
+fn read_array<R: Read, const N: usize>(reader: &mut R) -> Result<[u8; N], Stop>
+    ensures { IfOk result (λ bytes. Consumes (R.remaining reader.old) (R.remaining reader.new) bytes × (length bytes ≡ N)) }
+{
+    let mut bytes = [0; N];
+    reader.read_exact(&mut bytes)?;
+    Ok(bytes)
+}
+
 // Reads a number of four bytes, low byte first.
 pub fn read_size<R: Read>(reader: &mut R) -> Result<usize, Stop>
     ensures { IfOk result (λ n. (bytes : List ℕ) × Consumes (R.remaining reader.old) (R.remaining reader.new) bytes × (length bytes ≡ 4)
         × (n ≡ from_le_bytes w32 bytes)) }
 {
-    let mut bytes = [0u8; 4];
-    reader.read_exact(&mut bytes)?;
-    Ok(u32::from_le_bytes(bytes) as usize)
+    Ok(u32::from_le_bytes(read_array(reader)?) as usize)
 }
 
 // Reads a number of eight bytes, low byte first.
@@ -75,9 +82,7 @@ pub fn read_word<R: Read>(reader: &mut R) -> Result<u64, Stop>
     ensures { IfOk result (λ n. (bytes : List ℕ) × Consumes (R.remaining reader.old) (R.remaining reader.new) bytes × (length bytes ≡ 8)
         × (n ≡ from_le_bytes w64 bytes)) }
 {
-    let mut bytes = [0u8; 8];
-    reader.read_exact(&mut bytes)?;
-    Ok(u64::from_le_bytes(bytes))
+    Ok(u64::from_le_bytes(read_array(reader)?))
 }
 
 // Reads a line, eight bytes a field.
@@ -108,10 +113,9 @@ pub fn read_lines<R: Read>(reader: &mut R, n: usize) -> Result<[Line; LINES], St
 
 // Reads the label of the next case, its length before it, and prints it.
 pub fn label(reader: &mut impl Read, rt: &impl Print) -> Result<(), Stop> {
-    let mut size = [0u8; 1];
-    reader.read_exact(&mut size)?;
+    let [size]: [u8; 1] = read_array(reader)?;
     let mut text = [0u8; 255];
-    let text = read_part(reader, &mut text, usize::from(size[0]))?;
+    let text = read_part(reader, &mut text, usize::from(size))?;
     rt.write_all(text)?;
     rt.write_all(b": ")?;
     Ok(())

@@ -4,35 +4,37 @@
 -- Assumes nothing.
 use mathlib.Core.Path.{◌≡◌, refl, sym, ap, ◌∙◌}
 use Prim.Native.Nat.{ℕ, zero, suc, ◌+◌, ◌-◌, ◌^◌, ◌<◌, ◌≤◌, zero-le}
-use native.Mathlib.Nat.{add-zero, add-suc, le_of_suc-le-suc, not-suc-le-zero}
+use native.Mathlib.Nat.{add-zero, add-suc}
 use native.Mathlib.Omega.{arith}
 use mathlib.Core.Bool.{Bool, true, false}
-use mathlib.Core.List.{List, [], ◌∷◌, ◌++◌}
-use lib.ListN.{length, get_or, set, take, drop, length-append, length-take, length-drop}
+use mathlib.Core.List.{List, [], ◌∷◌, ◌++◌, append-nil}
+use Rattle.std.proofs.lemmas.List.{append_assoc}
+use borrow.Rule.Slice.PartMut.{put_mid}
+use lib.ListN.{length, get_or, take, drop, length-append, length-take, length-drop}
+use lib.Seq.{take_at, drop_at, drop-drop, length-take-le, take-suc}
 use Rattle.lustre.specs.Answer.{answer, writes, stored_report, over, lines_after}
 use Rattle.lustre.specs.declared.Line.{Line}
 use Rattle.lines.specs.Lines.{line_in}
-use Rattle.stored.specs.Laid.{laid}
+use Rattle.stored.specs.Lines.{lines_in}
 use Rattle.staging.specs.declared.Batch.{Batch}
 use Rattle.staging.specs.Batches.{due, blank, Batched, Going}
 
 -- ---- lists
 
--- the next line of D stored behind the first n
-set_next : (D ys : List Line) (n : ℕ) (d : Line) → n < length D → length D ≤ length ys → set (take n D ++ drop n ys) n (get_or D n d) ≡ take (suc n) D ++ drop (suc n) ys
-set_next [] ys n d h g = absurd (not-suc-le-zero h)
-set_next (x ∷ D) [] n d h g = absurd (not-suc-le-zero g)
-set_next (x ∷ D) (y ∷ ys) zero d h g = refl
-set_next (x ∷ D) (y ∷ ys) (suc n) d h g = ap (λ (l : List Line). x ∷ l) (set_next D ys n d (le_of_suc-le-suc h) (le_of_suc-le-suc g))
+-- the lines of a batch behind the first n
+pub lines_next : (D : List Line) (n : ℕ) (zs : List ℕ) (k : ℕ) → n + k ≤ length D → ((j : ℕ) → j < k → line_in zs j ≡ get_or D (n + j) blank) → take n D ++ lines_in k zs ≡ take (n + k) D
+lines_next D n zs zero h e = append-nil (take n D) ∙ ap (λ (m : ℕ). take m D) (sym (add-zero n))
+lines_next D n zs (suc k) h e =
+    sym (append_assoc (take n D) (lines_in k zs) (line_in zs k ∷ []))
+    ∙ (λ i. lines_next D n zs k (omega arith) (λ j l. e j (omega arith)) i ++ e k (omega arith) i ∷ [])
+    ∙ sym (take-suc D (n + k) blank (omega arith))
+    ∙ ap (λ (m : ℕ). take m D) (sym (add-suc n k))
 
--- the lines of a batch laid behind the first n
-pub laid_next : (D ys : List Line) (n : ℕ) (zs : List ℕ) (k : ℕ) → n + k ≤ length D → length D ≤ length ys → ((j : ℕ) → j < k → line_in zs j ≡ get_or D (n + j) blank)
-    → laid (take n D ++ drop n ys) n zs k ≡ take (n + k) D ++ drop (n + k) ys
-laid_next D ys n zs zero h g e = ap (λ (m : ℕ). take m D ++ drop m ys) (sym (add-zero n))
-laid_next D ys n zs (suc k) h g e =
-    (λ i. set (laid_next D ys n zs k (omega arith) g (λ j l. e j (omega arith)) i) (n + k) (e k (omega arith) i))
-    ∙ set_next D ys (n + k) blank (omega arith) g
-    ∙ ap (λ (m : ℕ). take m D ++ drop m ys) (sym (add-suc n k))
+-- stored over what was lent
+pub put_next : (D ys : List Line) (n k : ℕ) (zs : List ℕ) → n + k ≤ length D → ((j : ℕ) → j < k → line_in zs j ≡ get_or D (n + j) blank) → put_mid n k (take n D ++ drop n ys) (lines_in k zs) ≡ take (n + k) D ++ drop (n + k) ys
+put_next D ys n k zs h e =
+    let l : length (take n D) ≡ n = length-take-le n D (omega arith) in
+    simp (take_at (take n D) (drop n ys) n l, drop_at (take n D) (drop n ys) n l, drop-drop) (sym (append_assoc (take n D) (lines_in k zs) (drop (n + k) ys)) ∙ ap (λ (l : List Line). l ++ drop (n + k) ys) (lines_next D n zs k h e))
 
 -- all of a list
 take_all : (l : List Line) → take (length l) l ≡ l
@@ -93,14 +95,17 @@ module _ {ks ws text lent : List ℕ} {ys : List Line} {b : Batch} {zs : List �
   going small more = record { text = text; lent = lent; room = length ys; small = small; long = s.long; batch = s.batched; more = more }
 
   -- after one more batch
-  pub later : {c : Batch} {zs' : List ℕ} {ls' : List Line} → length zs' ≡ length zs → Batched ks ws text lent (length ys) c zs' → c.at ≡ b.at + b.count → ls' ≡ laid ls b.at zs b.count → Turned ks ws text lent ys c zs' ls'
-  later l batched e e' = record {
-    long = l ∙ s.long;
-    batched = batched;
-    ls_are = e' ∙ ap (λ (l : List Line). laid l b.at zs b.count) s.ls_are
-        ∙ laid_next (due ks ws text (length lent) (length ys)) ys b.at zs b.count (omega (arith, s.batched.within, s.batched.sums.goal)) (due_fits ks ws text (length lent) (length ys)) s.batched.lines
-        ∙ ap (λ (n : ℕ). take n (due ks ws text (length lent) (length ys)) ++ drop n ys) (sym e);
-  }
+  pub later : {c : Batch} {zs' : List ℕ} {ls' : List Line} → length zs' ≡ length zs → Batched ks ws text lent (length ys) c zs' → c.at ≡ b.at + b.count → ls' ≡ lines_in (length (take (b.at + b.count - b.at) (drop b.at ls))) zs → Turned ks ws text lent ys c zs' (put_mid b.at (b.at + b.count - b.at) ls ls')
+  later l batched e e' =
+      let k : b.at + b.count - b.at ≡ b.count = omega arith in
+      let n : length (take (b.at + b.count - b.at) (drop b.at ls)) ≡ b.count = omega (arith, length-take (b.at + b.count - b.at) (drop b.at ls), length-drop b.at ls, in_room) in
+      record {
+        long = l ∙ s.long;
+        batched = batched;
+        ls_are = (λ i. put_mid b.at (k i) (s.ls_are i) ((e' ∙ ap (λ m. lines_in m zs) n) i))
+            ∙ put_next (due ks ws text (length lent) (length ys)) ys b.at b.count zs (omega (arith, s.batched.within, s.batched.sums.goal)) s.batched.lines
+            ∙ ap (λ (n : ℕ). take n (due ks ws text (length lent) (length ys)) ++ drop n ys) (sym e);
+      }
 
   -- fewer lines are left
   pub fewer : {c : Batch} {zs' : List ℕ} → b.at < b.goal → Batched ks ws text lent (length ys) c zs' → c.at ≡ b.at + b.count → c.goal - c.at < b.goal - b.at

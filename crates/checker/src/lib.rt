@@ -6,20 +6,25 @@
 
 ghost use Rattle.checker.specs.Call.{Checked};
 
-use lustre::{Answer, Line};
+use lustre::{Answer, Line, Records};
 use reader::Reader;
 use staging::{first_batch, next_batch};
 use stored::fill;
 
 // The report on the records that a reader holds: batch after batch is stored, until none is left.
-// Kept: each batch is made from the one before it and says itself whether one follows, so there is nothing for a `for` to go over.
+// Kept: each batch is made from the one before it and says itself whether one follows, so there is nothing for a `for` to go over; and an
+// iterator would hold the work memory, which `fill` reads.
 pub fn check_reader<'a>(r: Reader<'a>, text: &[u8], work: &mut [u64], lines: &mut [Line]) -> Answer
     ensures { Checked r.entry.kinds.now r.entry.words.now text.now work.old lines.old result work.new lines.new }
 {
+    let records = Records {
+        kinds: r.kinds,
+        words: r.words,
+    };
     let mut b = first_batch(r.kinds, r.words, text, work, lines.len());
     while b.at < b.goal {
-        fill(lines, b.at, b.count, work);
-        b = next_batch(r.kinds, r.words, work, b);
+        fill(&mut lines[b.at..b.at + b.count], work);
+        b = next_batch(&records, work, b);
     }
     b.answer
 }

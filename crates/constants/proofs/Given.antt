@@ -7,7 +7,6 @@ use mathlib.Core.Logic.{⊎_elim}
 use mathlib.Core.Bool.{true, false}
 use mathlib.Core.List.{List, ◌∷◌}
 use lib.ListN.{length, get_or, take, drop, length-take, length-drop}
-use Rattle.std.specs.Prelude.{Some}
 use Rattle.std.proofs.lemmas.List.{take-append-drop}
 use Rattle.lustre.specs.Name.{Name, ◌is◌, ◌among◌}
 use Rattle.lustre.specs.Expr.{size}
@@ -26,7 +25,7 @@ use Rattle.types.specs.Value.{Naming, asTy}
 use Rattle.types.specs.Place.{Read}
 use Rattle.types.specs.Scope.{Table}
 use Rattle.types.specs.declared.Typ.{Typ}
-use Rattle.types.specs.declared.Context.{Context}
+use Rattle.types.specs.declared.context.Context.{Context}
 use Rattle.rules.specs.World.{Typed}
 use Rattle.rules.proofs.Places.{read_is, read_next}
 use Rattle.infer.specs.Post.{GivenWhole}
@@ -107,9 +106,9 @@ module _ {ks ws sc : List ℕ} {at : ℕ} (g : ConstantGiven ks ws sc at) where
   unfolding context
   alias_table = (types_targets g.declared).1
 
--- what inference asks for, with a hint that is the declared type
-abbrev pub value_given : {x : Context} {at : ℕ} (g : ConstantOf x at) {r : Typ} {next : ℕ} → Read x.records.kinds.now x.records.words.now (at + 1) r next → GivenWhole x next (Some r)
-value_given g d = record { W = world g.model g.declared; few = g.model.few; e = g.c.value; stands = (value_there g d).stands; shallow = g.shallow.value; known = d.known }
+-- what inference asks for
+abbrev pub value_given : {x : Context} {at : ℕ} (g : ConstantOf x at) {r : Typ} {next : ℕ} → Read x.records.kinds.now x.records.words.now (at + 1) r next → GivenWhole x next
+value_given g d = record { W = world g.model g.declared; few = g.model.few; e = g.c.value; stands = (value_there g d).stands; shallow = g.shallow.value }
 
 -- its value has no more records than the whole
 pub value_few : {ks ws sc : List ℕ} {at : ℕ} (start : ℕ) (g : ConstantGiven ks ws sc at) → length (part ks start) ≤ 4096

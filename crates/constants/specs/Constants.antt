@@ -4,7 +4,7 @@ use Rattle.std.specs.Prelude.{ℕ, List, []}
 use Rattle.lustre.specs.Project.{Constant}
 use Rattle.input.specs.Depths.{ShallowConstant}
 use Rattle.standing.specs.Standing.{ConstantAt}
-use Rattle.types.specs.declared.Context.{Context}
+use Rattle.types.specs.declared.context.Context.{Context}
 use Rattle.scope.specs.Model.{Model}
 use Rattle.scope.specs.Tables.{records, Declared}
 

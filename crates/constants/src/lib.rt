@@ -17,15 +17,17 @@ ghost use Rattle.scope.specs.Sets.{Holds};
 ghost use Rattle.constants.specs.Constants.{ConstantOf};
 
 use body::contains_temporal;
-use infer::infer;
+use infer::{RightSide, infer};
 use lines::{Lines, Spot};
 use loops::NameSet;
 use lustre::{NONE, Records, codes};
 use standing::skip;
+use types::Typ;
+use types::context::Context;
 use types::records::read_type;
-use types::{Context, Typ};
 
 // The line of the value at a place that has a temporal operator: E0004.
+// Kept: what stands in the records is asked, here and below, and is no ghost fact: it is data, and a ghost fact has one proof alone.
 fn check_static(records: &Records, start: usize, q: Spot, lines: &mut Lines)
     requires { There records.now.kinds.now records.now.words.now start }
     ensures { (num : Name → ℕ) (g : There records.now.kinds.now records.now.words.now start) →
@@ -58,12 +60,15 @@ fn check_value(ctx: &Context, at: usize, q: Spot, lines: &mut Lines)
     let declared = read_type(&ctx.records, at + 1);
     let start = declared.next;
     check_static(&ctx.records, start, q, lines);
-    let side = Records {
-        kinds: &ctx.records.kinds[start..],
-        words: &ctx.records.words[start..],
+    let side = RightSide {
+        ctx: *ctx,
+        records: Records {
+            kinds: &ctx.records.kinds[start..],
+            words: &ctx.records.words[start..],
+        },
     };
     let want = declared.typ;
-    if let Some(value) = infer(ctx, &side, 0, Some(want), q, lines) {
+    if let Some(value) = infer(&side, 0, Some(&want), q, lines) {
         check_fits(ctx, at, &want, &value.typ, q, lines);
     }
 }
@@ -76,10 +81,10 @@ pub fn check_constant(ctx: &Context, seen: &mut NameSet, at: usize, q: Spot, lin
         Noted g.model.number q (if g.c.name among xs then about 3 g.c.name ∷ [] else constant_notes (context (skeleton g.model.P)) g.c) lines.old lines.new
         × Holds g.model.text (g.c.name ∷ xs) seen.new.bits }
 {
-    let name = ctx.records.words[at];
+    let name = ctx.records.name(at);
     if seen.insert(name) {
         check_value(ctx, at, q, lines);
     } else {
-        lines.put(q, codes::E0003, NONE, name);
+        lines.put(q, codes::E0003, NONE, name.number);
     }
 }

@@ -55,10 +55,6 @@ with_edges text ns row graph a b = has graph a b || ((text a among map text ns) 
 pub record Joining (ns row graph₀ : List ℕ) (i : ℕ) (graph : List ℕ) : Type 0 where
   pub edges : (text : Naming) → Injective text → (a b : ℕ) → a < 512 → b < 512 → with_edges text (drop i ns) row graph a b ≡ with_edges text ns row graph₀ a b
 
--- no name is passed
-pub joining_start : {ns row graph : List ℕ} → Joining ns row graph 0 graph
-joining_start = record { edges = λ text inj a b p q. refl }
-
 module _ {ns row graph₀ : List ℕ} {i : ℕ} {graph : List ℕ} (j : Joining ns row graph₀ i graph) where
   -- one name more
   pub joining_more : {graph' : List ℕ} → i < length ns → Joined graph (get_or ns i 0) row graph' → Joining ns row graph₀ (i + 1) graph'

@@ -1,4 +1,3 @@
-pub mod Names
 pub mod Assigned
 pub mod Sides
 pub mod Edges

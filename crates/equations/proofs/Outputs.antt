@@ -1,25 +1,24 @@
 -- A right-hand side that is a tuple: E0042 by the numbers of names and members, and E0043 where it is itself a call, name by name.
 -- Assumes nothing.
-use Prim.Native.Nat.{ℕ, ◌+◌, ◌-◌, ◌≤◌, ◌<◌, min}
+use Prim.Native.Nat.{ℕ, suc, ◌+◌, ◌<◌, min}
 use native.Mathlib.Omega.{arith}
 use mathlib.Core.Path.{◌≡◌, refl, sym, ap, ◌∙◌}
 use mathlib.Core.Bool.{Bool, true, false}
 use mathlib.Core.List.{List, [], ◌∷◌, ◌++◌, map}
 use mathlib.Core.Option.{Option, none}
-use lib.ListN.{length, get_or, drop, length-map, length-drop}
+use lib.ListN.{length, get_or, length-map}
 use Rattle.std.specs.Prelude.{Some, None}
-use Rattle.std.proofs.lemmas.List.{drop_more}
 use borrow.Author.Tests.{eq-eqb, ne_eqb}
 use Rattle.lustre.specs.Name.{Name, lookup}
-use Rattle.lustre.specs.Types.{Ty, levels}
+use Rattle.lustre.specs.Types.{Ty}
 use Rattle.lustre.specs.Expr.{Expr, Literal, Form, form, literal_form}
 use Rattle.lustre.specs.Expr.{const, var, unary, binary, ite, pre, arrow, call, field, index, tuple, array, struct, cast, when, merge, iterate, iterate_from, bool, int, float, char}
 use Rattle.lustre.specs.Project.{Port, Heading, skeleton}
 use Rattle.lustre.specs.Line.{Note, bare, about}
 use Rattle.lustre.specs.Resolve.{Scope, context, compatible}
 use Rattle.lustre.specs.Node.{bound_one, bound_each, bound_tuple, outputs_in, called_outputs}
-use Rattle.input.specs.Depths.{ShallowPorts}
-use Rattle.standing.specs.Standing.{Source, RecAt, ExprAt, EachAt, PortAt, port_size, ports_size}
+use Rattle.lustre.specs.declared.NameId.{NameId}
+use Rattle.standing.specs.Standing.{Source, RecAt, ExprAt, ports_size}
 use Rattle.standing.proofs.Inversions.{WithName, Arguments, expr_record, call_here}
 use Rattle.lines.specs.Lines.{Noted}
 use Rattle.lines.specs.declared.Spot.{Spot}
@@ -29,16 +28,19 @@ use Rattle.types.specs.Place.{Read}
 use Rattle.types.specs.Value.{Naming, asTy}
 use Rattle.types.specs.Scope.{Compares}
 use Rattle.types.specs.declared.Typ.{Typ}
-use Rattle.rules.specs.World.{Listed, HeadingAt, PortsHere, Found}
+use Rattle.types.specs.declared.context.Context.{Context}
+use Rattle.rules.specs.World.{Listed, HeadingAt, PortsHere, PortsOf, Found, source_of}
 use Rattle.rules.specs.Post.{HintIs}
+use Rattle.rules.specs.Walk.{FirstPort, Walked}
+use Rattle.rules.specs.declared.walk.Ports.{Ports}
 use Rattle.rules.proofs.Laws.{found}
 use Rattle.rules.proofs.Places.{read_is}
-use Rattle.rules.proofs.PortLaws.{FirstPort, first_port}
+use Rattle.rules.proofs.Walks.{Left, left_start, left_first, left_place, left_next, left_none}
 use Rattle.scope.specs.Tables.{records}
 use Rattle.scope.proofs.World.{apart}
 use Rattle.scope.specs.Names.{NamesHere}
-use Rattle.equations.specs.Equations.{OutputGiven, output_notes, OutputsGiven, SidesGiven}
-use Rattle.equations.proofs.Names.{names_in, names_are, first_many, first_at}
+use Rattle.equations.specs.Equations.{OutputGiven, OutputOf, output_notes, OutputsGiven, OutputsOf, outputs_notes, SidesGiven}
+use Rattle.scope.proofs.Names.{names_in, names_are, names_small}
 use Rattle.equations.proofs.Types.{alias_table, one_free, one_fits, one_unfit}
 
 -- ---- the numbers
@@ -186,75 +188,60 @@ each_more : (Γ : Scope) (env : List Port) {xs more : List Name} {x : Name} {ps 
 unfolding bound_each
 each_more Γ env e f = rw (e, f)
 
-module _ {ks ws sc : List ℕ} {list outputs : ℕ} (g : OutputsGiven ks ws sc list outputs) where
-  abbrev here : Source
-  here = records g.left.scoped.model
-
-  abbrev texts : List ℕ → List Name
-  texts = map g.left.scoped.model.text
-
+module _ (x : Context) {list outputs : ℕ} (g : OutputsOf x list outputs) where
   -- the names assigned, by their numbers
-  abbrev pub left_names : NamesHere ws list
-  left_names = record { ks = ks; text = g.left.scoped.model.text; xs = g.left.xs; listed = g.left.listed }
+  abbrev pub left_names : NamesHere x.records.words.now list
+  left_names = record { ks = x.records.kinds.now; text = g.left.scoped.model.text; xs = g.left.xs; listed = g.left.listed }
 
-  abbrev each : List Name → List Port → List Note
-  each = bound_each (context (skeleton g.left.scoped.model.P)) g.left.scoped.env
+  -- the outputs, as a list of ports
+  abbrev output_ports : PortsOf x.records outputs
+  output_ports = record { text = g.left.scoped.model.text; ps = g.ps; listed = g.listed }
 
-  -- what the loop keeps at the name with index i: the outputs that are left; once these and the names that are left are noted, all are
-  pub record Judging (q : Spot) (l₀ : Lines) (i port : ℕ) (l : Lines) : Type 0 where
-    pub ports : List Port
-    pub ports_at : EachAt (PortAt here) port_size ports port
-    pub few : ShallowPorts ports
-    pub many : length ports + i ≡ length g.ps
-    pub all : {l' : Lines} → Noted g.left.scoped.model.number q (each (texts (drop i (names_in ws list))) ports) l l' → Noted g.left.scoped.model.number q (each g.left.xs g.ps) l₀ l'
+  abbrev each : List ℕ → List Port → List Note
+  each ns = bound_each (context (skeleton g.left.scoped.model.P)) g.left.scoped.env (map g.left.scoped.model.text ns)
 
-  pub judging_start : {q : Spot} {l : Lines} → Judging q l 0 (outputs + 1) l
-  judging_start = record {
-    ports = g.ps;
-    ports_at = g.listed.stand.items;
-    few = g.listed.few;
-    many = omega arith;
+  -- what the loop keeps where the names of the numbers ns and the outputs of a walk are left: once these are noted, all are
+  pub record Judging (q : Spot) (l₀ : Lines) (ns : List ℕ) (w : Ports) (l : Lines) : Type 0 where
+    pub small : (i : ℕ) → i < length ns → get_or ns i 0 < 512
+    pub walk : Left x.records output_ports w
+    pub all : {l' : Lines} → Noted g.left.scoped.model.number q (each ns walk.rest) l l' → Noted g.left.scoped.model.number q (outputs_notes g) l₀ l'
+
+  pub judging_start : {q : Spot} {l : Lines} {w : Ports} → (w.records ≡ x.records) × (w.at ≡ outputs + 1) × (w.left ≡ get_or x.records.words.now outputs 0)
+      → Judging q l (names_in x.records.words.now list) w l
+  judging_start e = record {
+    small = names_small left_names;
+    walk = left_start x.records output_ports e;
     all = λ d. rw (names_are left_names) at d;
   }
 
-  -- so many names have an output
-  module _ {k : ℕ} (both : k ≡ min (get_or ws list 0) (get_or ws outputs 0)) where
-    -- they are among those assigned
-    pub both_names : k ≤ get_or ws list 0
-    both_names = omega arith
+module _ {x : Context} {list outputs : ℕ} {g : OutputsOf x list outputs} {q : Spot} {l₀ l : Lines} {ns : List ℕ} {w : Ports} (j : Judging x g q l₀ ns w l) where
+  -- no names are left, or no outputs
+  judged_all : min (length (map g.left.scoped.model.text ns)) (length j.walk.rest) ≡ 0 → Noted g.left.scoped.model.number q (outputs_notes g) l₀ l
+  judged_all h = j.all (rw (each_none (context (skeleton g.left.scoped.model.P)) g.left.scoped.env (map g.left.scoped.model.text ns) j.walk.rest h) noted_none)
 
-    module _ {q : Spot} {l₀ l : Lines} {i port : ℕ} (j : Judging q l₀ i port l) where
-      -- none are left of one of them
-      pub judging_end : k ≤ i → Noted g.left.scoped.model.number q (each g.left.xs g.ps) l₀ l
-      judging_end h =
-          let many : length (texts (drop i (names_in ws list))) ≡ get_or ws list 0 - i = simp (length-map, length-drop) (ap (λ (m : ℕ). m - i) (first_many left_names {k = get_or ws list 0} (omega arith))) in
-          j.all (rw (each_none (context (skeleton g.left.scoped.model.P)) g.left.scoped.env (texts (drop i (names_in ws list))) j.ports (omega (arith, many, j.many, g.listed.stand.many))) noted_none)
+  pub judged_names : length ns ≡ 0 → Noted g.left.scoped.model.number q (outputs_notes g) l₀ l
+  judged_names h = judged_all (omega (arith, length-map ns g.left.scoped.model.text))
 
-      module _ (h : i < k) where
-        -- the next name
-        abbrev w : ℕ
-        w = get_or ws (list + 1 + i) 0
+  pub judged_ports : {v : Ports} → Walked w None v → Noted g.left.scoped.model.number q (outputs_notes g) l₀ l
+  judged_ports d = judged_all (rw (left_none j.walk d) (omega arith))
 
-        next_name : drop i (names_in ws list) ≡ w ∷ drop (i + 1) (names_in ws list)
-        next_name =
-            let e = drop_more (names_in ws list) i 0 (omega (arith, first_many left_names {k = get_or ws list 0} (omega arith))) in
-            e ∙ ap (λ (n : ℕ). n ∷ drop (i + 1) (names_in ws list)) (first_at left_names i (omega arith))
+  module _ {n : ℕ} {more : List ℕ} (is : ns ≡ n ∷ more) where
+    -- the next name's number
+    pub judged_small : n < 512
+    judged_small = rw is at (j.small 0 (rw is (omega arith)))
 
-        -- the next output
-        pub judged_port : FirstPort here j.ports port (length j.ports)
-        judged_port = first_port here j.ports port (length j.ports) refl (λ z. omega (arith, j.many, g.listed.stand.many)) j.ports_at j.few
+    module _ {p : NameId × ℕ} {v : Ports} (d : Walked w (Some p) v) where
+      abbrev first : FirstPort (source_of x.records g.left.scoped.model.text) j.walk.rest w.at v.at v.left
+      first = left_first j.walk d
 
-        -- its type, for `check_output`
-        abbrev pub judged_output : OutputGiven ks ws sc (port + 1)
-        judged_output = record { scoped = g.left.scoped; t = judged_port.p.1; typed = judged_port.typed }
+      -- the next output's type, for `check_output`
+      abbrev pub judged_output : OutputOf x (p.1 + 1)
+      judged_output = record { scoped = g.left.scoped; t = first.p.1; typed = rw (left_place j.walk d) first.typed }
 
-        -- one name and one output less
-        pub judging_more : {l' : Lines} {n e : ℕ} → n ≡ w → e ≡ port + 1 + levels judged_port.p.1
-            → Noted g.left.scoped.model.number q (output_notes judged_output n) l l' → Judging q l₀ (i + 1) e l'
-        judging_more c q d = record {
-          ports = judged_port.others;
-          ports_at = rw q judged_port.stand;
-          few = judged_port.few;
-          many = omega (arith, j.many, judged_port.fewer);
-          all = λ r. j.all (rw (each_more (context (skeleton g.left.scoped.model.P)) g.left.scoped.env (ap texts next_name) judged_port.are) (noted_append (rw c at d) r));
-        }
+      -- one name and one output less
+      pub judging_more : {l' : Lines} → Noted g.left.scoped.model.number q (output_notes judged_output n) l l' → Judging x g q l₀ more v l'
+      judging_more u = record {
+        small = λ i b. rw is at (j.small (suc i)) (omega arith);
+        walk = left_next j.walk d;
+        all = λ r. j.all (rw (each_more (context (skeleton g.left.scoped.model.P)) g.left.scoped.env (ap (map g.left.scoped.model.text) is) first.are) (noted_append u r));
+      }

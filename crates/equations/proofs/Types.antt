@@ -1,17 +1,13 @@
 -- The names assigned and the type of a right-hand side: the declared type of the one name, and E0040 and E0041 of a type that is no tuple.
 -- Assumes nothing.
-use Rattle.std.specs.Prelude as code
-use Rattle.std.specs.Prelude.{None, Some, MatchOption}
-use Rattle.std.specs.Option.{is_some}
+use Rattle.std.specs.Prelude.{None}
 use Prim.Native.Nat.{ℕ, ◌+◌, ◌≤◌}
 use native.Mathlib.Omega.{arith}
 use mathlib.Core.Path.{◌≡◌, refl, sym, ap, ◌∙◌}
-use mathlib.Core.Bool.{Bool, true, false, not}
+use mathlib.Core.Bool.{true, false}
 use mathlib.Core.List.{List, [], ◌∷◌, ◌++◌}
 use mathlib.Core.Option.{Option, none, some}
-use lib.Dec.{eqb}
 use lib.ListN.{length, get_or, length-drop}
-use borrow.Author.Tests.{eq-eqb, ne_eqb}
 use Rattle.lustre.specs.Name.{Name, lookup}
 use Rattle.lustre.specs.Types.{Ty, members}
 use Rattle.lustre.specs.Expr.{Form}
@@ -28,8 +24,7 @@ use Rattle.lines.specs.declared.Lines.{Lines}
 use Rattle.lines.proofs.Laws.{noted_append}
 use Rattle.types.specs.Value.{Naming}
 use Rattle.types.specs.Scope.{Table}
-use Rattle.types.specs.declared.Typ.{Typ}
-use Rattle.types.specs.declared.Context.{Context}
+use Rattle.types.specs.declared.context.Context.{Context}
 use Rattle.rules.specs.Post.{HintIs}
 use Rattle.infer.specs.Post.{GivenWhole}
 use Rattle.scope.specs.Tables.{records, Scoped}
@@ -80,14 +75,7 @@ alias_table w = (types_targets w.declared).1
 
 -- no type, where none is declared
 pub no_type : {ρ : Naming} {s : Option Ty} → s ≡ none → HintIs ρ s 67 None
-no_type e = record { is = sym e; low = omega arith; known = tt }
-
--- an entry is 0 exactly where it leads to no declaration
-pub free_entry : (r : code.Option ℕ) (e : ℕ) (b : Bool) → MatchOption r (e ≡ 0) (λ p. e ≡ p + 1) → is_some r ≡ not b → eqb e 0 ≡ b
-free_entry None e true h s = eq-eqb e 0 h
-free_entry None e false h s = cc
-free_entry (Some p) e true h s = cc
-free_entry (Some p) e false h s = ne_eqb e 0 (λ z. omega arith)
+no_type e = record { is = sym e; low = omega arith }
 
 -- ---- E0040 and E0041
 
@@ -137,9 +125,9 @@ pub said_then_noted : {A : Type 0} {num : Name → ℕ} {q : Spot} {s : Out A} {
     → v ≡ w → Said num q s v l l₁ → Noted num q (f w) l₁ l₂ → Noted num q (s.1 ++ f s.0) l l₂
 said_then_noted f e d h = rw (← d.value, e) (noted_append d.noted h)
 
--- what inference asks for, with a hint that is the declared type
-abbrev pub sides_whole : {x : Context} {list start : ℕ} {h : code.Option Typ} (g : SidesOf x list start) → HintIs g.left.scoped.model.text (wanted g.left.scoped.env g.left.xs) 67 h → GivenWhole x start h
-sides_whole g d = record { W = world g.left.scoped.model g.left.scoped.declared; few = g.left.scoped.model.few; e = g.e; stands = g.stands; shallow = g.shallow; known = d.known }
+-- what inference asks for
+abbrev pub sides_whole : {x : Context} {list start : ℕ} (g : SidesOf x list start) → GivenWhole x start
+sides_whole g = record { W = world g.left.scoped.model g.left.scoped.declared; few = g.left.scoped.model.few; e = g.e; stands = g.stands; shallow = g.shallow }
 
 -- the side has no more records than the whole
 pub sides_few : {ks ws sc : List ℕ} {list start : ℕ} (g : SidesGiven ks ws sc list start) → length (part ks start) ≤ 4096

@@ -19,7 +19,7 @@ use Rattle.lines.specs.Lines.{Noted}
 use Rattle.lines.specs.declared.Spot.{Spot}
 use Rattle.lines.specs.declared.Lines.{Lines}
 use Rattle.types.specs.Value.{Naming}
-use Rattle.types.specs.declared.Context.{Context}
+use Rattle.types.specs.declared.context.Context.{Context}
 use Rattle.rules.specs.World.{Typed, Listed}
 use Rattle.body.specs.Body.{notes}
 use Rattle.loops.specs.Rows.{has}

@@ -2,7 +2,7 @@
 // immediate dependencies, lib.rs 1490.
 #![tactic(auto)]
 
-ghost use Rattle.std.specs.Prelude.{ℕ, ◌+◌, ◌<◌, ◌≤◌, ◌≡◌, ◌&&◌, ◌||◌, List, [], ◌∷◌, ◌++◌, eqb, length, get_or, if◌then◌else◌};
+ghost use Rattle.std.specs.Prelude.{ℕ, ◌+◌, ◌<◌, ◌≡◌, ◌&&◌, ◌||◌, List, [], ◌∷◌, ◌++◌, eqb, get_or, if◌then◌else◌, option_copied};
 ghost use Rattle.std.proofs.Math.Option.{some};
 ghost use Rattle.lustre.specs.Name.{Name, ◌among◌, lookup};
 ghost use Rattle.lustre.specs.Types.{Ty};
@@ -24,34 +24,35 @@ ghost use Rattle.body.specs.Body.{Side};
 ghost use Rattle.equations.specs.Equations.{ScopedOf, LeftOf, OutputOf, OutputsOf, SidesOf, EquationOf, side_notes, output_notes, outputs_notes, tuple_notes, bound_notes, type_notes, EquationChecked, EquationHere, EdgesAdded};
 
 use body::{check_pre, contains_temporal, immediate_reads, nested_iterators};
-use infer::infer;
+use infer::{RightSide, infer};
 use lines::{Lines, Spot};
-use loops::{NameSet, join_row};
-use lustre::{NONE, Records, codes, kinds};
-use rules::declared;
-use rules::ports::{ports_end, type_end};
+use loops::{GRAPH, NameSet, join_row};
+use lustre::{NONE, NameId, Records, codes, kinds};
+use rules::ports::ports_end;
+use rules::walk::ports_of;
 use scope::repeated_name;
 use standing::skip;
+use types::Typ;
+use types::context::{Context, Scope};
 use types::records::read_type;
-use types::{Context, Scope, Typ};
 
 // The line of an assigned name that is no port or local, or is an input: E0020 or E0022.
-fn check_known(scope: &Scope, ins: &NameSet, name: u64, q: Spot, lines: &mut Lines)
-    requires { name < 512 }
-    ensures { (num : Name → ℕ) (x : Name) → num x ≡ name →
-        Noted num q (if eqb (get_or scope.now.entries (name + 2560) 0) 0 then about 20 x ∷ []
-        else if has ins.now.bits 0 name then about 22 x ∷ [] else []) lines.old lines.new }
+fn check_known(scope: &Scope, ins: &NameSet, name: NameId, q: Spot, lines: &mut Lines)
+    ensures { (num : Name → ℕ) (x : Name) → num x ≡ name.number →
+        Noted num q (if eqb (get_or scope.now.entries (name.number + 2560) 0) 0 then about 20 x ∷ []
+        else if has ins.now.bits 0 name.number then about 22 x ∷ [] else []) lines.old lines.new }
 {
-    if declared(scope, Scope::PORTS, name).is_none() {
-        lines.put(q, codes::E0020, NONE, name);
+    if scope.declared(Scope::PORTS, name).is_none() {
+        lines.put(q, codes::E0020, NONE, name.number);
     } else if ins.contains(name) {
-        lines.put(q, codes::E0022, NONE, name);
+        lines.put(q, codes::E0022, NONE, name.number);
     }
 }
 
 // The lines of the assigned names in the list at a place, name by name, lib.rs 383: E0020 or E0022, then E0021 where the set `assigned` has
 // the name already. Then the set has it.
-#[tactic(auto, using(crate::proofs::Names::names_inside, crate::proofs::Names::names_small))]
+// Kept: what stands in the records is asked, here and below, and is no ghost fact: it is data, and a ghost fact has one proof alone.
+#[tactic(auto, using(scope::proofs::Names::names_inside, scope::proofs::Names::names_small))]
 fn check_names(
     ctx: &Context,
     list: usize,
@@ -71,9 +72,10 @@ fn check_names(
 {
     let words = ctx.records.words;
     let end = list + 1 + words[list] as usize;
-    for name in &words[list + 1..end] {
-        check_known(ctx.scope, ins, *name, q, lines);
-        repeated_name(assigned, *name, codes::E0021, q, lines);
+    for word in &words[list + 1..end] {
+        let name = NameId { number: *word };
+        check_known(ctx.scope, ins, name, q, lines);
+        repeated_name(assigned, name, codes::E0021, q, lines);
     }
 }
 
@@ -107,12 +109,11 @@ fn check_side(records: &Records, start: usize, q: Spot, lines: &mut Lines) -> us
 }
 
 // The declared type of the name of a port or local, if it is one.
-fn port_type(ctx: &Context, name: u64) -> Option<Typ>
-    requires scoped { ScopedOf ctx.now }
-    requires small { name < 512 }
-    ensures { (w : ScopedOf ctx.now) → HintIs w.model.text (lookup (w.model.text name) w.env) 67 result }
+fn port_type(ctx: &Context, name: NameId) -> Option<Typ>
+    requires { ScopedOf ctx.now }
+    ensures { (w : ScopedOf ctx.now) → HintIs w.model.text (lookup (w.model.text name.number) w.env) 67 result }
 {
-    let port = declared(ctx.scope, Scope::PORTS, name)?;
+    let port = ctx.scope.declared(Scope::PORTS, name)?;
     Some(read_type(&ctx.records, port + 1).typ)
 }
 
@@ -121,23 +122,21 @@ fn declared_type(ctx: &Context, list: usize) -> Option<Typ>
     requires { LeftOf ctx.now list }
     ensures { (g : LeftOf ctx.now list) → HintIs g.scoped.model.text (wanted g.scoped.env g.xs) 67 result }
 {
-    let words = ctx.records.words;
-    if words[list] != 1 {
+    if ctx.records.words[list] != 1 {
         return None;
     }
-    port_type(ctx, words[list + 1])
+    port_type(ctx, ctx.records.name(list + 1))
 }
 
 // The line of a name whose declared type is not that of the output whose type stands at a place, request 2.8: E0043. An unknown name gets none.
-fn check_output(ctx: &Context, name: u64, at: usize, q: Spot, lines: &mut Lines)
-    requires output { OutputOf ctx.now at }
-    requires small { name < 512 }
-    ensures { (g : OutputOf ctx.now at) → Noted g.scoped.model.number q (output_notes g name) lines.old lines.new }
+fn check_output(ctx: &Context, name: NameId, at: usize, q: Spot, lines: &mut Lines)
+    requires { OutputOf ctx.now at }
+    ensures { (g : OutputOf ctx.now at) → Noted g.scoped.model.number q (output_notes g name.number) lines.old lines.new }
 {
     if let Some(want) = port_type(ctx, name) {
         let got = read_type(&ctx.records, at).typ;
         if !ctx.compatible(&want, &got) {
-            lines.put(q, codes::E0043, NONE, name);
+            lines.put(q, codes::E0043, NONE, name.number);
         }
     }
 }
@@ -148,11 +147,10 @@ fn check_outputs(ctx: &Context, list: usize, outputs: usize, q: Spot, lines: &mu
     ensures { (g : OutputsOf ctx.now list outputs) → Noted g.left.scoped.model.number q (outputs_notes g) lines.old lines.new }
 {
     let words = ctx.records.words;
-    let end = list + 1 + words[list].min(words[outputs]) as usize;
-    let mut port = outputs + 1;
-    for name in &words[list + 1..end] {
-        check_output(ctx, *name, port + 1, q, lines);
-        port = type_end(&ctx.records, port + 1);
+    let end = list + 1 + words[list] as usize;
+    let names = &words[list + 1..end];
+    for (word, (_, port)) in names.iter().zip(ports_of(&ctx.records, outputs)) {
+        check_output(ctx, NameId { number: *word }, port + 1, q, lines);
     }
 }
 
@@ -170,7 +168,7 @@ fn check_tuple(ctx: &Context, list: usize, start: usize, members: u64, q: Spot, 
     if records.kinds[start] != kinds::CALL {
         return;
     }
-    if let Some(node) = declared(ctx.scope, Scope::NODES, records.words[start]) {
+    if let Some(node) = ctx.scope.declared(Scope::NODES, records.name(start)) {
         let outputs = ports_end(records, node + 1);
         check_outputs(ctx, list, outputs, q, lines);
     }
@@ -182,13 +180,13 @@ fn check_bound(
     ctx: &Context,
     list: usize,
     start: usize,
-    hint: Option<Typ>,
+    hint: Option<&Typ>,
     t: &Typ,
     q: Spot,
     lines: &mut Lines,
 )
     requires { SidesOf ctx.now list start }
-    ensures { (g : SidesOf ctx.now list start) → asHint g.left.scoped.model.text hint ≡ wanted g.left.scoped.env g.left.xs →
+    ensures { (g : SidesOf ctx.now list start) → asHint g.left.scoped.model.text (option_copied hint.entry) ≡ wanted g.left.scoped.env g.left.xs →
         Noted g.left.scoped.model.number q (bound_notes g (some (asTy g.left.scoped.model.text t.now))) lines.old lines.new }
 {
     let words = ctx.records.words;
@@ -197,7 +195,7 @@ fn check_bound(
     } else if words[list] != 1 {
         lines.put(q, codes::E0041, NONE, NONE);
     } else if let Some(want) = hint {
-        if !ctx.compatible(&want, t) {
+        if !ctx.compatible(want, t) {
             lines.put(q, codes::E0040, NONE, words[list + 1]);
         }
     }
@@ -208,12 +206,16 @@ fn check_type(ctx: &Context, list: usize, start: usize, q: Spot, lines: &mut Lin
     requires { SidesOf ctx.now list start }
     ensures { (g : SidesOf ctx.now list start) → Noted g.left.scoped.model.number q (type_notes g q.function) lines.old lines.new }
 {
-    let hint = declared_type(ctx, list);
-    let side = Records {
-        kinds: &ctx.records.kinds[start..],
-        words: &ctx.records.words[start..],
+    let declared = declared_type(ctx, list);
+    let hint = declared.as_ref();
+    let side = RightSide {
+        ctx: *ctx,
+        records: Records {
+            kinds: &ctx.records.kinds[start..],
+            words: &ctx.records.words[start..],
+        },
     };
-    if let Some(value) = infer(ctx, &side, 0, hint, q, lines) {
+    if let Some(value) = infer(&side, 0, hint, q, lines) {
         check_bound(ctx, list, start, hint, &value.typ, q, lines);
     }
 }
@@ -239,10 +241,9 @@ pub fn check_equation(
 }
 
 // Adds an edge from each name in the list at a place to each name of the set `row`.
-#[tactic(auto, using(crate::proofs::Names::names_inside, crate::proofs::Names::names_small))]
-fn join_names(words: &[u64], list: usize, row: &NameSet, graph: &mut [u64])
-    requires names { NamesHere words.now list }
-    requires room { 4096 ≤ length graph.old }
+#[tactic(auto, using(scope::proofs::Names::names_inside, scope::proofs::Names::names_small))]
+fn join_names(words: &[u64], list: usize, row: &NameSet, graph: &mut [u64; GRAPH])
+    requires { NamesHere words.now list }
     ensures { (g : NamesHere words.now list) → Injective g.text → (a b : ℕ) → a < 512 → b < 512 →
         has graph.new a b ≡ (has graph.old a b || ((g.text a among g.xs) && has row.now.bits 0 b)) }
 {
@@ -253,9 +254,8 @@ fn join_names(words: &[u64], list: usize, row: &NameSet, graph: &mut [u64])
 }
 
 // Adds the edges of the equation at a place to the graph.
-pub fn add_edges(records: &Records, at: usize, graph: &mut [u64])
-    requires equation { EquationHere records.now.kinds.now records.now.words.now at }
-    requires room { 4096 ≤ length graph.old }
+pub fn add_edges(records: &Records, at: usize, graph: &mut [u64; GRAPH])
+    requires { EquationHere records.now.kinds.now records.now.words.now at }
     ensures { (g : EquationHere records.now.kinds.now records.now.words.now at) → Injective g.text → EdgesAdded g.text g.eq graph.old graph.new }
 {
     let mut row = NameSet::new();

@@ -8,11 +8,10 @@ pub mod output;
 ghost use Rattle.std.specs.Prelude.{◌+◌, ◌*◌, ◌≤◌, ◌<◌, ◌≡◌, ◌++◌, length, take, drop};
 ghost use Rattle.format.specs.File.{words_in, parse, kinds_of, text_of, sizes_of, Decoded};
 
-// The most records that refusal 1 lets pass.
-pub const RECORDS: usize = 4096;
+use lustre::{MAX_RECORDS, MAX_TEXT};
 
-// The most text bytes that it lets pass.
-const TEXT: usize = 16384;
+// The longest file that is not refusal 1: 8 bytes, 9 for each record, and the text.
+pub const FILE: usize = 8 + 9 * MAX_RECORDS + MAX_TEXT;
 
 // The record count and the text length of a file.
 #[derive(Clone, Copy)]
@@ -36,7 +35,7 @@ fn sizes_in(file: &[u8]) -> Option<Sizes>
     let (t, rest) = rest.split_first_chunk::<4>()?;
     let records = u32::from_le_bytes(*n) as usize;
     let text = u32::from_le_bytes(*t) as usize;
-    if records > RECORDS || text > TEXT || rest.len() != 9 * records + text {
+    if records > MAX_RECORDS || text > MAX_TEXT || rest.len() != 9 * records + text {
         return None;
     }
     Some(Sizes { records, text })
@@ -50,6 +49,7 @@ fn behind(file: &[u8], at: usize) -> &[u8]
 }
 
 // Stores the words that stand at the start of some bytes.
+// Kept: the words are counted, since the library doesn't say what a `zip` over `iter_mut` leaves in the slice.
 fn store_words(bytes: &[u8], words: &mut [u64])
     requires { 8 * length words.old ≤ length bytes.now }
     ensures { words.new ≡ words_in (length words.old) bytes.now }

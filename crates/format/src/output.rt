@@ -58,7 +58,7 @@ fn field_of(n: u64) -> ArrayString<21>
 }
 
 // A place kind and a space.
-// Kept: a place kind stays the number that the C line holds, since an enum would be made of it for this match alone.
+// Kept: a place kind stays a number, since a line's fields are C's numbers and an enum would be made of it for this match alone.
 #[tactic(auto, unfolding(crate::specs::Output::place))]
 fn place_of(place: u64) -> ArrayString<21>
     ensures { result.bytes ≡ Output·place place ++ bytes " " }
@@ -123,11 +123,13 @@ fn pair(before: &str, first: u64, between: &str, second: u64) -> ArrayString<FRO
 fn header_of(a: Answer) -> ArrayString<FRONT>
     ensures { result.bytes ++ bytes "\n" ≡ header a }
 {
-    let n = Numbers::from(a);
-    if n.refusal == 0 {
-        return pair("lines ", n.first, " followed ", n.second);
+    match a {
+        Answer::Report(lines, followed) => pair("lines ", lines, " followed ", followed),
+        Answer::Refused(_) | Answer::MoreLines(_) => {
+            let n = Numbers::from(a);
+            pair("refused ", n.refusal, " at ", n.first)
+        }
     }
-    pair("refused ", n.refusal, " at ", n.first)
 }
 
 // Renders the header of an answer.

@@ -29,14 +29,14 @@ use Rattle.lines.proofs.Laws.{noted_none, said_return, said_add, said_try, said_
 use Rattle.types.specs.Value.{asTy}
 use Rattle.types.specs.Number.{asHint}
 use Rattle.types.specs.Place.{Read}
-use Rattle.types.specs.declared.Context.{Context}
+use Rattle.types.specs.declared.context.Context.{Context}
 use Rattle.types.specs.declared.Typ.{Typ}
 use Rattle.rules.specs.World.{WorldOf, source_of, PortsOf}
 use Rattle.rules.specs.Post.{Given, Inferring, TypeIs, typed}
 use Rattle.rules.specs.Ports.{Callable, Called}
 use Rattle.rules.specs.Lists.{GivenArg, DoneArg, GivenArgs, DoneArgs}
 use Rattle.rules.specs.declared.Seen.{Seen}
-use Rattle.rules.specs.declared.Typed as answer
+use Rattle.types.specs.declared.Typed as answer
 use Rattle.rules.proofs.Laws.{closed, weaker}
 use Rattle.rules.proofs.Places.{read_is, read_next}
 use Rattle.rules.proofs.Onward as rest
@@ -55,8 +55,8 @@ module _ {ctx : Context} {side : Records} {at port : ℕ} (g : GivenArg ctx side
     arg_is = (read_is g.typed rd).is
 
     -- the argument under its port's type as hint
-    abbrev pub arg_given : Given ctx side at (Some want)
-    arg_given = record { W = g.W; e = g.e; stands = g.stands; d = g.d; top = g.top; deep = g.deep; casts = g.casts; known = rd.known }
+    abbrev pub arg_given : Given ctx side at
+    arg_given = record { W = g.W; e = g.e; stands = g.stands; d = g.d; top = g.top; deep = g.deep; casts = g.casts }
 
     arg_tried : {q : Spot} {l l₁ : Lines} {a : code.Option answer.Typed} → Inferring ctx side at (Some want) q l a l₁
         → Said g.W.number q (try (infer g.W.Γ q.function at g.e (some g.t))) (some (typed g.W.text a)) l l₁
@@ -186,7 +186,7 @@ module _ {ctx : Context} {side : Records} {at port k step name : ℕ} {g : Given
 
 -- ---- the call
 
-module _ {ctx : Context} {side : Records} {at : ℕ} {h : code.Option Typ} (g : Given ctx side at h) (k : kind_at side at ≡ 70) where
+module _ {ctx : Context} {side : Records} {at : ℕ} (g : Given ctx side at) (k : kind_at side at ≡ 70) where
   abbrev here : WithName (source_of side g.W.text) at (λ f. inversions.Arguments (source_of side g.W.text) (call f) g.e at)
   here = call_here (source_of side g.W.text) g.e at g.stands k
 
@@ -215,9 +215,9 @@ module _ {ctx : Context} {side : Records} {at : ℕ} {h : code.Option Typ} (g : 
   call_counts f = length_infers g.W.Γ f (at + 2) here.holds.es ∙ sym here.holds.many
 
   -- the callee is not fit: E0100, or E0102 behind E0101 if that is due
-  pub call_refused : {q : Spot} {l l₁ : Lines} → ((W : WorldOf ctx) → Called W at (word_at side at) (word_at side (at + 1)) q l None l₁) → Whole g q l None l₁
+  pub call_refused : (h : code.Option Typ) {q : Spot} {l l₁ : Lines} → ((W : WorldOf ctx) → Called W at (word_at side at) (word_at side (at + 1)) q l None l₁) → Whole g h q l None l₁
   unfolding infer
-  call_refused {q} d = nothing (rw call_is (d g.W (infers g.W.Γ q.function (at + 2) here.holds.es) (asHint g.W.text h) (call_counts q.function)))
+  call_refused h {q} d = nothing (rw call_is (d g.W (infers g.W.Γ q.function (at + 2) here.holds.es) (asHint g.W.text h) (call_counts q.function)))
 
   module _ {q : Spot} {l l₁ : Lines} {port : ℕ} (dc : (W : WorldOf ctx) → Called W at (word_at side at) (word_at side (at + 1)) q l (Some port) l₁) where
     abbrev fit : Callable g.W at (word_at side at) (word_at side (at + 1)) q l port l₁
@@ -246,10 +246,10 @@ module _ {ctx : Context} {side : Records} {at : ℕ} {h : code.Option Typ} (g : 
       call_outputs = record { text = g.W.text; ps = fit.sig.outputs; listed = rw (da call_given).after fit.outputs }
 
       -- all is said, and the type is that of the outputs
-      pub call_done : {t : Typ} → ((x : PortsOf ctx.records a.port) → TypeIs x.text (outputs_type x.ps) 67 t)
-          → Whole g q l (Some (record { typ = t; next = a.next })) l₂
+      pub call_done : (h : code.Option Typ) {t : Typ} → ((x : PortsOf ctx.records a.port) → TypeIs x.text (outputs_type x.ps) 67 t)
+          → Whole g h q l (Some (record { typ = t; next = a.next })) l₂
       unfolding infer
-      call_done f =
+      call_done h f =
           closed
           (weaker {least = 67} (omega (arith, call_deep)) (rw call_is (rest.call_done at fit _ (asHint g.W.text h) _ (call_counts q.function) (da call_given).said (f call_outputs))))
           ((da call_given).next ∙ call_ends)

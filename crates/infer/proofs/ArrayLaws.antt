@@ -6,7 +6,7 @@ use mathlib.Core.Path.{◌≡◌, refl, sym, ap, ◌∙◌}
 use mathlib.Core.Bool.{Bool}
 use mathlib.Core.List.{List, [], ◌∷◌, ◌++◌, append-nil, append_assoc}
 use mathlib.Core.Option.{Option, none, some}
-use lib.ListN.{length, drop, length-append}
+use lib.ListN.{length, get_or, drop, length-append}
 use lib.Seq.{drop-drop}
 use Rattle.std.specs.Prelude as code
 use Rattle.std.specs.Prelude.{Some, None}
@@ -18,42 +18,55 @@ use Rattle.lustre.specs.Grammar.{count}
 use Rattle.lustre.specs.Project.{Port}
 use Rattle.lustre.specs.Resolve.{Scope}
 use Rattle.lustre.specs.Infer.{infer, infers, operand, arrays}
+use Rattle.lustre.specs.declared.NameId.{NameId}
 use Rattle.lustre.specs.declared.Records.{Records}
-use Rattle.input.specs.Depths.{depths, ShallowPorts, ShallowCastsEach}
-use Rattle.standing.specs.Standing.{ExprsAt, EachAt, PortAt, port_size}
+use Rattle.input.specs.Depths.{depths, ShallowCastsEach}
+use Rattle.standing.specs.Standing.{ExprsAt}
 use Rattle.standing.proofs.Sizes.{FirstExpr, first_expr, no_exprs}
 use Rattle.lines.specs.Lines.{Said}
 use Rattle.lines.specs.declared.Lines.{Lines}
 use Rattle.lines.specs.declared.Spot.{Spot}
 use Rattle.lines.proofs.Laws.{said_return, said_go, said_stop}
 use Rattle.types.specs.Value.{Naming, asTy}
-use Rattle.types.specs.declared.Context.{Context}
+use Rattle.types.specs.Place.{Read}
+use Rattle.types.specs.declared.context.Context.{Context}
 use Rattle.types.specs.declared.Typ.{Typ}
-use Rattle.types.specs.declared.records.TypeRead.{TypeRead}
-use Rattle.rules.specs.World.{WorldOf, source_of}
+use Rattle.rules.specs.World.{WorldOf, PortsOf, TypeOf, source_of}
 use Rattle.rules.specs.Post.{Given, Inferring, value_if}
 use Rattle.rules.specs.Flags.{Flags, Beside}
-use Rattle.rules.specs.Iterators.{InputsOf, NextInput, Taking}
+use Rattle.rules.specs.Iterators.{Taking}
+use Rattle.rules.specs.Walk.{Walking, Walked}
 use Rattle.rules.specs.Lists.{GivenArrays, DoneArrays}
-use Rattle.rules.specs.declared.Typed as answer
+use Rattle.types.specs.declared.Typed as answer
 use Rattle.rules.specs.declared.iterators.Kept.{Kept}
-use Rattle.infer.proofs.Steps.{word_at, deep_more, casts_more, sizes_more}
+use Rattle.rules.specs.declared.walk.Ports.{Ports}
+use Rattle.rules.proofs.Places.{read_is}
+use Rattle.rules.proofs.Walks as walks
+use Rattle.rules.proofs.Walks.{left_first, left_place, left_next, left_none, left_over}
+use Rattle.infer.proofs.Steps.{deep_more, casts_more, sizes_more}
 
 -- ---- the input beside an array
 
--- the type of the next of the inputs, if there is one, and where the others are
-pub record Next (ctx : Context) (port left : ℕ) (x : InputsOf ctx.records port left) (want : code.Option Typ) (behind fewer : ℕ) : Type 0 where
-  pub beside : Beside x.text x.ps want
-  pub stand : EachAt (PortAt (source_of ctx.records x.text)) port_size (drop 1 x.ps) behind
-  pub few : ShallowPorts (drop 1 x.ps)
-  pub many : length (drop 1 x.ps) ≡ fewer
+-- the inputs of the function as a list of ports
+abbrev pub ports : {ctx : Context} {side : Records} {at list k : ℕ} → GivenArrays ctx side at list k → PortsOf ctx.records list
+ports g = record { text = g.W.text; ps = g.ps; listed = g.inputs }
 
-module _ {ctx : Context} {port left : ℕ} {x : InputsOf ctx.records port left} where
-  pub next_some : {i : TypeRead} {fewer : ℕ} → NextInput ctx.records port left x (Some i) → fewer + 1 ≡ left → Next ctx port left x (Some i.typ) i.next fewer
-  next_some d e = record { beside = d.beside; stand = d.stand; few = d.few; many = omega (arith, d.many) }
+-- the type of the next input of a walk, if there is one, and the walk over the others
+pub record Next {r : Records} {list : ℕ} {x : PortsOf r list} {w : Ports} (l : walks.Left r x w) (want : code.Option Typ) (v : Ports) : Type 0 where
+  pub beside : Beside x.text l.rest want
+  pub walk : walks.Left r x v
+  pub same : walk.rest ≡ drop 1 l.rest
 
-  pub next_none : NextInput ctx.records port left x None → Next ctx port left x None port left
-  next_none d = record { beside = d.beside; stand = d.stand; few = d.few; many = omega (arith, d.many, d.there) }
+module _ {r : Records} {list : ℕ} {x : PortsOf r list} {w v : Ports} (l : walks.Left r x w) where
+  pub next_some : {p : NameId × ℕ} (d : Walked w (Some p) v) {t : Typ} {next : ℕ} → Read r.kinds.now r.words.now (p.1 + 1) t next → Next l (Some t) v
+  next_some d i =
+      let f = left_first l d in
+      record { beside = rw f.are (read_is f.typed (rw (left_place l d) at i)).is; walk = left_next l d; same = sym (ap (λ (ps : List Port). drop 1 ps) f.are) }
+
+  pub next_none : Walked w None v → Next l None v
+  next_none d =
+      let z = left_none l d in
+      record { beside = rw z refl; walk = left_over l d; same = rw z refl }
 
 -- ---- the arrays one after another
 
@@ -83,9 +96,9 @@ module _ {num : Name → ℕ} {q : Spot} {l l₁ l' : Lines} (Γ : Scope) (f : B
   unfolding infer arrays
   arrays_more v d s = rw is (said_go _ x refl d (said_more x v s))
 
--- What is left after the arrays ds: j operands from `next` on, with the inputs behind those of ds from `port` on, `left` of them; and the
--- rest of the arrays says the rest of what all say.
-pub record Left (ctx : Context) (side : Records) (at list k step : ℕ) (g : GivenArrays ctx side at list k) (q : Spot) (l : Lines) (kept : Kept) (next port left : ℕ) (now : Lines) (j : ℕ) : Type 0 where
+-- What is left after the arrays ds: j operands from `next` on, and the walk w over the inputs behind those of ds; and the rest of the
+-- arrays says the rest of what all say.
+pub record Left (ctx : Context) (side : Records) (at list k step : ℕ) (g : GivenArrays ctx side at list k) (q : Spot) (l : Lines) (kept : Kept) (next : ℕ) (w : Ports) (now : Lines) (j : ℕ) : Type 0 where
   pub es : Exprs
   pub stand : ExprsAt (source_of side g.W.text) es next
   pub many : count es ≡ j
@@ -95,18 +108,17 @@ pub record Left (ctx : Context) (side : Records) (at list k step : ℕ) (g : Giv
   pub ds : List (ℕ × Ty)
   pub flags : Flags g.W.Γ g.W.text ds g.ps kept
   pub taken : length ds + j ≡ k
-  pub inputs : EachAt (PortAt (source_of ctx.records g.W.text)) port_size (drop (length ds) g.ps) port
-  pub few : ShallowPorts (drop (length ds) g.ps)
-  pub same : length (drop (length ds) g.ps) ≡ left
+  pub walk : walks.Left ctx.records (ports g) w
+  pub same : walk.rest ≡ drop (length ds) g.ps
   pub rest : {v : Option (List (ℕ × Ty))} {l' : Lines}
       → Said g.W.number q (arrays g.W.Γ step (infers g.W.Γ q.function next es)) v now l'
       → Said g.W.number q (arrays g.W.Γ step (infers g.W.Γ q.function at g.es)) (behind ds v) l l'
 
 -- before the first
-pub left_start : {ctx : Context} {side : Records} {at list k step : ℕ} (g : GivenArrays ctx side at list k) {q : Spot} {l : Lines} {kept : Kept} {j : ℕ}
-    → j ≡ k → ((Γ : Scope) (ρ : Naming) (ps : List Port) → Flags Γ ρ [] ps kept)
-    → Left ctx side at list k step g q l kept at (list + 1) (word_at ctx.records list) l j
-left_start g e f = record {
+pub left_start : {ctx : Context} {side : Records} {at list k step : ℕ} (g : GivenArrays ctx side at list k) {q : Spot} {l : Lines} {kept : Kept} {w : Ports} {j : ℕ}
+    → j ≡ k → (w.records ≡ ctx.records) × (w.at ≡ list + 1) × (w.left ≡ get_or ctx.records.words.now list 0) → ((Γ : Scope) (ρ : Naming) (ps : List Port) → Flags Γ ρ [] ps kept)
+    → Left ctx side at list k step g q l kept at w l j
+left_start {ctx} g e i f = record {
   es = g.es;
   stand = g.stand;
   many = g.many ∙ sym e;
@@ -116,24 +128,28 @@ left_start g e f = record {
   ds = [];
   flags = f g.W.Γ g.W.text g.ps;
   taken = omega arith;
-  inputs = g.inputs.stand.items;
-  few = g.inputs.few;
-  same = sym g.inputs.stand.many;
+  walk = walks.left_start ctx.records (ports g) i;
+  same = refl;
   rest = λ {v} d. rw (behind_none v) d;
 }
 
-module _ {ctx : Context} {side : Records} {at list k step : ℕ} {g : GivenArrays ctx side at list k} {q : Spot} {l : Lines} {kept : Kept} {next port left : ℕ} {now : Lines} {j : ℕ}
-    (rem : Left ctx side at list k step g q l kept next port left now j) where
-  -- the inputs that are left
-  abbrev pub left_inputs : InputsOf ctx.records port left
-  left_inputs = record { text = g.W.text; ps = drop (length rem.ds) g.ps; stand = rem.inputs; few = rem.few; many = rem.same }
+module _ {ctx : Context} {side : Records} {at list k step : ℕ} {g : GivenArrays ctx side at list k} {q : Spot} {l : Lines} {kept : Kept} {next : ℕ} {w : Ports} {now : Lines} {j : ℕ}
+    (rem : Left ctx side at list k step g q l kept next w now j) where
+  -- the walk goes on, and stops at a port with a type
+  abbrev pub left_walking : Walking w
+  left_walking = record { text = g.W.text; ps = rem.walk.rest; left = rw rem.walk.records rem.walk.left }
+
+  abbrev pub left_type : {p : NameId × ℕ} {v : Ports} → Walked w (Some p) v → TypeOf ctx.records (p.1 + 1)
+  left_type d =
+      let f = left_first rem.walk d in
+      record { text = g.W.text; t = f.p.1; typed = rw (left_place rem.walk d) f.typed }
 
   module _ (some_left : j ≡ 0 → ⊥) where
     abbrev one : FirstExpr (source_of side g.W.text) rem.es next j
     one = first_expr (source_of side g.W.text) rem.es next j rem.many some_left rem.stand
 
     -- the next operand
-    abbrev pub left_given : Given ctx side next None
+    abbrev pub left_given : Given ctx side next
     left_given = record {
       W = g.W;
       e = one.e;
@@ -142,7 +158,6 @@ module _ {ctx : Context} {side : Records} {at list k step : ℕ} {g : GivenArray
       top = g.top;
       deep = (deep_more one.is g.d rem.deep).0;
       casts = (casts_more one.is rem.casts).0;
-      known = tt;
     }
 
     -- it has no type: nor have the arrays
@@ -157,11 +172,11 @@ module _ {ctx : Context} {side : Records} {at list k step : ℕ} {g : GivenArray
     }
 
     module _ {now₁ : Lines} {a : answer.Typed} (da : Inferring ctx side next None q now (Some a) now₁)
-        {want : code.Option Typ} {behind' fewer : ℕ} (n : Next ctx port left left_inputs want behind' fewer) where
+        {want : code.Option Typ} {v : Ports} (n : Next rem.walk want v) where
       module _ (t : code.Option Kept) {now₂ : Lines}
           (dt : (W : WorldOf ctx) (ds : List (ℕ × Ty)) (ps : List Port) → Flags W.Γ W.text ds ps kept → Beside W.text (drop (length ds) ps) want → Taking W step (asTy W.text a.typ) ds ps q now₁ t now₂) where
         abbrev taking : Taking g.W step (asTy g.W.text a.typ) rem.ds g.ps q now₁ t now₂
-        taking = dt g.W rem.ds g.ps rem.flags n.beside
+        taking = dt g.W rem.ds g.ps rem.flags (rw rem.same at n.beside)
 
         left_operand : Said g.W.number q (operand g.W.Γ step (infer g.W.Γ q.function next one.e)) (value_if t taking.x) now now₂
         unfolding operand
@@ -183,7 +198,7 @@ module _ {ctx : Context} {side : Records} {at list k step : ℕ} {g : GivenArray
       -- one array more
       pub left_step : {s : Kept} {now₂ : Lines} {i : ℕ}
           → ((W : WorldOf ctx) (ds : List (ℕ × Ty)) (ps : List Port) → Flags W.Γ W.text ds ps kept → Beside W.text (drop (length ds) ps) want → Taking W step (asTy W.text a.typ) ds ps q now₁ (Some s) now₂)
-          → i + 1 ≡ j → Left ctx side at list k step g q l s a.next behind' fewer now₂ i
+          → i + 1 ≡ j → Left ctx side at list k step g q l s a.next v now₂ i
       unfolding infer arrays
       left_step {s} dt e =
           let t : Taking g.W step (asTy g.W.text a.typ) rem.ds g.ps q now₁ (Some s) _ = taking (Some s) dt in
@@ -199,9 +214,8 @@ module _ {ctx : Context} {side : Records} {at list k step : ℕ} {g : GivenArray
             ds = rem.ds ++ (t.x ∷ []);
             flags = t.flags;
             taken = omega (arith, long, rem.taken);
-            inputs = rw less n.stand;
-            few = rw less n.few;
-            same = rw less n.many;
+            walk = n.walk;
+            same = n.same ∙ ap (λ (ps : List Port). drop 1 ps) rem.same ∙ sym less;
             rest = λ {v} u. rw (← behind_more rem.ds t.x v) (rem.rest {v = behind (t.x ∷ []) v} (arrays_more g.W.Γ q.function step next one.is t.x v (left_operand (Some s) dt) (rw (da left_given).next at u)));
           }
 

@@ -33,16 +33,16 @@ use Rattle.lines.specs.Lines.{Noted}
 use Rattle.lines.specs.declared.Lines.{Lines}
 use Rattle.lines.specs.declared.Spot.{Spot}
 use Rattle.lines.proofs.Laws.{said_pass, said_add}
-use Rattle.types.specs.Value.{Naming, asTy, bottom, Known, Bottom}
+use Rattle.types.specs.Value.{Naming, asTy, bottom, Bottom}
 use Rattle.types.specs.Number.{number_of, asHint}
 use Rattle.types.specs.Place.{IsTypeAt, Read}
-use Rattle.types.specs.declared.Context.{Context}
+use Rattle.types.specs.declared.context.Context.{Context}
 use Rattle.types.specs.declared.Typ.{Typ}
 use Rattle.rules.specs.World.{WorldOf, source_of, Typed}
 use Rattle.rules.specs.Post.{Given, Done, Concludes, Ruled, LiteralRuled, Inferring, Failed, HintIs, hint_levels}
 use Rattle.rules.specs.Classes.{class_as}
 use Rattle.rules.specs.declared.Class.{Class}
-use Rattle.rules.specs.declared.Typed as answer
+use Rattle.types.specs.declared.Typed as answer
 use Rattle.rules.proofs.Laws.{false_true, go, stop, closed, closed_none, returned, refused, weaker, lower, at_end}
 use Rattle.rules.proofs.Places.{type_there, read_is, read_next}
 use Rattle.infer.specs.Post.{kind_at, Kind, GivenBoth, DoneBoth}
@@ -104,24 +104,24 @@ pub record RightHint (l : Typ) (x y : code.Option Typ) : Type 0 where
 
 module _ {l : Typ} {x : code.Option Typ} {b : Bool} (fb : (ρ : Naming) → b ≡ is_integer (asTy ρ l)) where
   -- the left type, if it is an integer type
-  pub right_type : b ≡ true → Known l → RightHint l x (Some l)
+  pub right_type : b ≡ true → RightHint l x (Some l)
   unfolding right_hint
-  right_type t k = record { holds = λ ρ. record { is = rw (← fb ρ, t) refl; low = omega arith; known = k } }
+  right_type t = record { holds = λ ρ. record { is = rw (← fb ρ, t) refl; low = omega arith } }
 
   -- the left operand's hint, if not
-  pub right_same : b ≡ false → IfSome x Known → RightHint l x x
+  pub right_same : b ≡ false → RightHint l x x
   unfolding right_hint
-  right_same f k = record { holds = λ ρ. record { is = rw (← fb ρ, f) refl; low = omega arith; known = k } }
+  right_same f = record { holds = λ ρ. record { is = rw (← fb ρ, f) refl; low = omega arith } }
 
 -- what the second of two parts gets, if x is the hint of both and l the first one's type
-pub second_hint : (ρ : Naming) (l : Typ) (x : code.Option Typ) → Known l → IfSome x Known → HintIs ρ (or_else (asHint ρ x) (asTy ρ l)) (max l.levels (hint_levels x)) (option_or x (Some l))
+pub second_hint : (ρ : Naming) (l : Typ) (x : code.Option Typ) → HintIs ρ (or_else (asHint ρ x) (asTy ρ l)) (max l.levels (hint_levels x)) (option_or x (Some l))
 unfolding or_else
-second_hint ρ l None k i = record { is = refl; low = omega arith; known = k }
-second_hint ρ l (Some t) k i = record { is = refl; low = omega arith; known = i }
+second_hint ρ l None = record { is = refl; low = omega arith }
+second_hint ρ l (Some t) = record { is = refl; low = omega arith }
 
 -- ---- the place and its parts
 
-module _ {ctx : Context} {side : Records} {at : ℕ} {h : code.Option Typ} (g : Given ctx side at h) where
+module _ {ctx : Context} {side : Records} {at : ℕ} (g : Given ctx side at) where
   abbrev src : Source
   src = source_of side g.W.text
 
@@ -169,24 +169,24 @@ module _ {ctx : Context} {side : Records} {at : ℕ} {h : code.Option Typ} (g : 
     pub casts : ShallowCasts a
 
   -- the whole's own hint
-  own : HintIs g.W.text (asHint g.W.text h) (hint_levels h) h
-  own = record { is = refl; low = omega arith; known = g.known }
+  own : (h : code.Option Typ) → HintIs g.W.text (asHint g.W.text h) (hint_levels h) h
+  own h = record { is = refl; low = omega arith }
 
-  -- a part a that stands at p, where the code finds it, under a hint
-  module _ {a : Expr} (i : Below a) {p : ℕ} (s : ExprAt src a p) {mid : ℕ} (e : mid ≡ p) {x : code.Option Typ} {y : Option Ty} {high : ℕ} (hx : HintIs g.W.text y high x) where
-    abbrev part : Given ctx side mid x
-    part = record { W = g.W; e = a; stands = rw e s; d = g.d + 1; top = omega arith; deep = i.deep; casts = i.casts; known = hx.known }
+  -- a part a that stands at p, where the code finds it
+  module _ {a : Expr} (i : Below a) {p : ℕ} (s : ExprAt src a p) {mid : ℕ} (e : mid ≡ p) where
+    abbrev part : Given ctx side mid
+    part = record { W = g.W; e = a; stands = rw e s; d = g.d + 1; top = omega arith; deep = i.deep; casts = i.casts }
 
-    -- what the call on it said
-    said : {q : Spot} {l l' : Lines} {r : code.Option answer.Typed} → Inferring ctx side mid x q l r l'
+    -- what the call on it said, under a hint
+    said : {x : code.Option Typ} {y : Option Ty} {high : ℕ} → HintIs g.W.text y high x → {q : Spot} {l l' : Lines} {r : code.Option answer.Typed} → Inferring ctx side mid x q l r l'
         → Done g.W.number g.W.text q (infer g.W.Γ q.function p a y) (p + size a) (max (127 - g.d) high) l r l'
-    said {q} {l} {l'} {r} d =
+    said {x} {y} hx {q} {l} {l'} {r} d =
         lower {high₁ = max (128 - (g.d + 1)) (hint_levels x)} (omega (arith, hx.low))
         (rw hx.is at (subst (λ (j : ℕ). Done g.W.number g.W.text q (infer g.W.Γ q.function j a (asHint g.W.text x)) (j + size a) (max (128 - (g.d + 1)) (hint_levels x)) l r l') e (d part)))
 
-  -- two parts one after the other, under the whole's own hint
+  -- two parts one after the other
   module _ {a b : Expr} (i : Below a) (j : Below b) {p : ℕ} (s : ExprAt src a p) (t : ExprAt src b (p + size a)) {mid : ℕ} (e : mid ≡ p) where
-    abbrev pair : GivenBoth ctx side mid h
+    abbrev pair : GivenBoth ctx side mid
     pair = record {
       W = g.W;
       a = a;
@@ -199,23 +199,22 @@ module _ {ctx : Context} {side : Records} {at : ℕ} {h : code.Option Typ} (g : 
       deep_b = j.deep;
       casts_a = i.casts;
       casts_b = j.casts;
-      known = g.known;
     }
 
-    -- what the call on them said
-    said_both : (step c : ℕ) {q : Spot} {l l' : Lines} {r : code.Option answer.Typed} → DoneBoth ctx side mid step c h q l r l'
+    -- what the call on them said, under the whole's own hint
+    said_both : (h : code.Option Typ) (step c : ℕ) {q : Spot} {l l' : Lines} {r : code.Option answer.Typed} → DoneBoth ctx side mid step c h q l r l'
         → Done g.W.number g.W.text q
         (both g.W.Γ step c (infer g.W.Γ q.function p a) (infer g.W.Γ q.function (p + size a) b) (asHint g.W.text h))
         (p + size a + size b) (max (128 - g.d) (hint_levels h)) l r l'
-    said_both step c {q} {l} {l'} {r} d =
+    said_both h step c {q} {l} {l'} {r} d =
         lower {high₁ = max (128 - (g.d + 1)) (hint_levels h)} (omega arith)
         (subst (λ (k : ℕ). Done g.W.number g.W.text q (both g.W.Γ step c (infer g.W.Γ q.function k a) (infer g.W.Γ q.function (k + size a) b) (asHint g.W.text h)) (k + size a + size b) (max (128 - (g.d + 1)) (hint_levels h)) l r l') e (d pair))
 
   -- ---- literals, variables, tuples
 
-  pub literal_done : Kind literal_kind side at → {q : Spot} {l l' : Lines} {k : code.Option ℕ} {r : code.Option Typ}
+  pub literal_done : {h : code.Option Typ} → Kind literal_kind side at → {q : Spot} {l l' : Lines} {k : code.Option ℕ} {r : code.Option Typ}
       → ((c : Literal) → literal_kind c ≡ kind_at side at → HintedOf ctx h (λ al. literal_type al c (word_at side at)) k)
-      → LiteralRuled q at k l r l' → Ends g q l r l'
+      → LiteralRuled q at k l r l' → Ends g h q l r l'
   unfolding infer
   literal_done c f d =
       let w = const_here src g.e at g.stands c.which c.is in
@@ -230,9 +229,9 @@ module _ {ctx : Context} {side : Records} {at : ℕ} {h : code.Option Typ} (g : 
     pub var_small : word_at side at < 512
     var_small = (var_here src g.e at g.stands k).name.small
 
-    pub var_done : {q : Spot} {l l' : Lines} {r : code.Option Typ} → Ruled ctx q (λ W. var_rule W.Γ at (W.text (word_at side at))) 67 l r l' → Ends g q l r l'
+    pub var_done : (h : code.Option Typ) {q : Spot} {l l' : Lines} {r : code.Option Typ} → Ruled ctx q (λ W. var_rule W.Γ at (W.text (word_at side at))) 67 l r l' → Ends g h q l r l'
     unfolding infer
-    var_done f =
+    var_done h f =
         let w = var_here src g.e at g.stands k in
         rw w.holds (weaker (omega (arith, g.deep)) (rw w.name.text at (f g.W)))
 
@@ -240,11 +239,11 @@ module _ {ctx : Context} {side : Records} {at : ℕ} {h : code.Option Typ} (g : 
     unfolding size
     var_next = rw (var_here src g.e at g.stands k).holds refl
 
-  pub tuple_done : kind_at side at ≡ 73 → {q : Spot} {l : Lines} {t : Typ} → Bottom 34 (word_at side at) t → Ends g q l (Some t) l
+  pub tuple_done : (h : code.Option Typ) → kind_at side at ≡ 73 → {q : Spot} {l : Lines} {t : Typ} → Bottom 34 (word_at side at) t → Ends g h q l (Some t) l
   unfolding infer bottom
-  tuple_done k {t = t} b =
+  tuple_done h k {t = t} b =
       let w = tuple_here src g.e at g.stands k in
-      returned t (omega (arith, b.flat)) (λ e. absurd (omega (arith, b.base))) (rw (w.is, ← w.many) (ap (λ (x : Ty). return x) (sym (b.is g.W.text))))
+      returned t (omega (arith, b.flat)) (rw (w.is, ← w.many) (ap (λ (x : Ty). return x) (sym (b.is g.W.text))))
 
   -- ---- unary operators
 
@@ -262,8 +261,8 @@ module _ {ctx : Context} {side : Records} {at : ℕ} {h : code.Option Typ} (g : 
     pub unary_words : at + 1 < length side.words.now
     unary_words = (expr_record src unary_w.a (at + 1) unary_w.a_at).in_words
 
-    pub unary_given : Given ctx side (at + 1) h
-    unary_given = part unary_below unary_w.a_at refl own
+    pub unary_given : Given ctx side (at + 1)
+    unary_given = part unary_below unary_w.a_at refl
 
     unary_end : at + size g.e ≡ at + 1 + size unary_w.a
     unfolding size
@@ -278,8 +277,8 @@ module _ {ctx : Context} {side : Records} {at : ℕ} {h : code.Option Typ} (g : 
         signed_is : signed_w.a ≡ const int (word_at side (at + 1))
         signed_is = const_here src signed_w.a (at + 1) signed_w.a_at int (eqb-true _ _ (both_true _ _ (sym eb ∙ y)).1)
 
-        pub unary_literal : {q : Spot} {l l' : Lines} {i : code.Option ℕ} {r : code.Option Typ} → HintedOf ctx h (λ al. integer_type al (number_of true (word_at side (at + 1)))) i
-            → LiteralRuled q at i l r l' → Ends g q l r l'
+        pub unary_literal : {h : code.Option Typ} {q : Spot} {l l' : Lines} {i : code.Option ℕ} {r : code.Option Typ} → HintedOf ctx h (λ al. integer_type al (number_of true (word_at side (at + 1)))) i
+            → LiteralRuled q at i l r l' → Ends g h q l r l'
         unfolding infer unary_rule form literal_form
         unary_literal f d = rw (signed_w.is, signed_is) (weaker (omega arith) (d g.W.number g.W.text _ (f.type g.W.text g.W.Γ.alias g.W.alias)))
 
@@ -294,31 +293,28 @@ module _ {ctx : Context} {side : Records} {at : ℕ} {h : code.Option Typ} (g : 
             let y : kind_at side (at + 1) ≡ 41 = integer_kind src unary_w.a (at + 1) v unary_w.a_at f in
             false_true (sym nb ∙ eb ∙ rw (x, y) refl)
 
-        unary_plainly : (q : Spot) → infer g.W.Γ q.function at g.e (asHint g.W.text h) ≡ unary_plain g.W.Γ at k.which (infer g.W.Γ q.function (at + 1) unary_w.a) (asHint g.W.text h)
+        unary_plainly : (h : code.Option Typ) (q : Spot) → infer g.W.Γ q.function at g.e (asHint g.W.text h) ≡ unary_plain g.W.Γ at k.which (infer g.W.Γ q.function (at + 1) unary_w.a) (asHint g.W.text h)
         unfolding infer
-        unary_plainly q =
+        unary_plainly h q =
             ap (λ (x : Expr). infer g.W.Γ q.function at x (asHint g.W.text h)) unary_w.is
             ∙ plainly g.W.Γ at k.which (form unary_w.a) (infer g.W.Γ q.function (at + 1) unary_w.a) (asHint g.W.text h) unary_not
 
-        pub unary_stop : {q : Spot} {l l₁ : Lines} → Inferring ctx side (at + 1) h q l None l₁ → Whole g q l None l₁
+        pub unary_stop : (h : code.Option Typ) {q : Spot} {l l₁ : Lines} → Inferring ctx side (at + 1) h q l None l₁ → Whole g h q l None l₁
         unfolding unary_plain
-        unary_stop d = rw (unary_plainly _) (closed_none (stop _ (said unary_below unary_w.a_at refl own d)))
+        unary_stop h d = rw (unary_plainly h _) (closed_none (stop _ (said unary_below unary_w.a_at refl (own h) d)))
 
-        module _ {q : Spot} {l l₁ : Lines} {a : answer.Typed} (da : Inferring ctx side (at + 1) h q l (Some a) l₁) where
+        module _ (h : code.Option Typ) {q : Spot} {l l₁ : Lines} {a : answer.Typed} (da : Inferring ctx side (at + 1) h q l (Some a) l₁) where
           unary_1 : Done g.W.number g.W.text q (infer g.W.Γ q.function (at + 1) unary_w.a (asHint g.W.text h)) (at + 1 + size unary_w.a) (max (127 - g.d) (hint_levels h)) l (Some a) l₁
-          unary_1 = said unary_below unary_w.a_at refl own da
-
-          pub unary_known : Known a.typ
-          unary_known = unary_1.known
+          unary_1 = said unary_below unary_w.a_at refl (own h) da
 
           pub unary_next : a.next ≡ at + size g.e
           unary_next = unary_1.next ∙ sym unary_end
 
           pub unary_done : {l₂ : Lines} {r : code.Option Typ}
               → ((o : UnaryOp) → unary_kind o ≡ kind_at side at → Ruled ctx q (λ W. unary_of W.Γ at o (asTy W.text a.typ)) a.typ.levels l₁ r l₂)
-              → Ends g q l r l₂
+              → Ends g h q l r l₂
           unfolding unary_plain
-          unary_done d = rw (unary_plainly q) (go _ unary_1 (weaker (omega (arith, unary_1.low)) (d k.which (sym k.is) g.W)))
+          unary_done d = rw (unary_plainly h q) (go _ unary_1 (weaker (omega (arith, unary_1.low)) (d k.which (sym k.is) g.W)))
 
   -- ---- binary operators
 
@@ -333,14 +329,14 @@ module _ {ctx : Context} {side : Records} {at : ℕ} {h : code.Option Typ} (g : 
         let c = rw bin_w.is at g.casts in
         (record { deep = omega arith; casts = c.0 }, record { deep = omega arith; casts = c.1 })
 
-    module _ (c : Class) (fc : (o : BinOp) → op_kind o ≡ kind_at side at → class_as c ≡ op_class o) {x : code.Option Typ} (fx : (ρ : Naming) → HintIs ρ (sub_hint (class_as c) (asHint ρ h)) (hint_levels h) x) where
+    pub bin_first : Given ctx side (at + 1)
+    bin_first = part bin_below.0 bin_w.a_at refl
+
+    module _ (c : Class) (fc : (o : BinOp) → op_kind o ≡ kind_at side at → class_as c ≡ op_class o) (h : code.Option Typ) {x : code.Option Typ} (fx : (ρ : Naming) → HintIs ρ (sub_hint (class_as c) (asHint ρ h)) (hint_levels h) x) where
       bin_class : class_as c ≡ op_class (op_at (kind_at side at))
       bin_class = fc (op_at (kind_at side at)) (op_kind_at (kind_at side at) k₁ k₂)
 
-      pub bin_first : Given ctx side (at + 1) x
-      bin_first = part bin_below.0 bin_w.a_at refl (fx g.W.text)
-
-      pub bin_stop : {q : Spot} {l l₁ : Lines} → Inferring ctx side (at + 1) x q l None l₁ → Whole g q l None l₁
+      pub bin_stop : {q : Spot} {l l₁ : Lines} → Inferring ctx side (at + 1) x q l None l₁ → Whole g h q l None l₁
       unfolding infer binary_rule
       bin_stop d = rw (bin_w.is, ← bin_class) (closed_none (stop _ (said bin_below.0 bin_w.a_at refl (fx g.W.text) d)))
 
@@ -348,20 +344,17 @@ module _ {ctx : Context} {side : Records} {at : ℕ} {h : code.Option Typ} (g : 
         bin_1 : Done g.W.number g.W.text q (infer g.W.Γ q.function (at + 1) bin_w.a (sub_hint (class_as c) (asHint g.W.text h))) (at + 1 + size bin_w.a) (max (127 - g.d) (hint_levels h)) l (Some a) l₁
         bin_1 = said bin_below.0 bin_w.a_at refl (fx g.W.text) da
 
-        pub bin_known : Known a.typ
-        bin_known = bin_1.known
-
         pub bin_next : at + 1 < a.next
         bin_next = omega (arith, bin_1.next, size_pos bin_w.a)
+
+        pub bin_second : Given ctx side a.next
+        bin_second = part bin_below.1 bin_w.b_at bin_1.next
 
         module _ {y : code.Option Typ} (fy : RightHint a.typ x y) where
           bin_hint : HintIs g.W.text (right_hint (asTy g.W.text a.typ) (sub_hint (class_as c) (asHint g.W.text h))) (max a.typ.levels (hint_levels x)) y
           bin_hint = rw (fx g.W.text).is at (fy.holds g.W.text)
 
-          pub bin_second : Given ctx side a.next y
-          bin_second = part bin_below.1 bin_w.b_at bin_1.next bin_hint
-
-          pub bin_stop₂ : {l₂ : Lines} → Inferring ctx side a.next y q l₁ None l₂ → Whole g q l None l₂
+          pub bin_stop₂ : {l₂ : Lines} → Inferring ctx side a.next y q l₁ None l₂ → Whole g h q l None l₂
           unfolding infer binary_rule
           bin_stop₂ d = rw (bin_w.is, ← bin_class) (closed_none (go _ bin_1 (stop _ (said bin_below.1 bin_w.b_at bin_1.next bin_hint d))))
 
@@ -373,7 +366,7 @@ module _ {ctx : Context} {side : Records} {at : ℕ} {h : code.Option Typ} (g : 
             unfolding size
             bin_end = rw bin_w.is (omega (arith, bin_2.next))
 
-            pub bin_done : {l₃ : Lines} {r : code.Option Typ} → Ruled ctx q (λ W. operands W.Γ at (class_as c) (asTy W.text a.typ) (asTy W.text b.typ)) a.typ.levels l₂ r l₃ → Ends g q l r l₃
+            pub bin_done : {l₃ : Lines} {r : code.Option Typ} → Ruled ctx q (λ W. operands W.Γ at (class_as c) (asTy W.text a.typ) (asTy W.text b.typ)) a.typ.levels l₂ r l₃ → Ends g h q l r l₃
             unfolding infer binary_rule
             bin_done d = rw (bin_w.is, ← bin_class) (go _ bin_1 (go _ bin_2 (weaker (omega (arith, bin_1.low)) (d g.W))))
 
@@ -390,16 +383,16 @@ module _ {ctx : Context} {side : Records} {at : ℕ} {h : code.Option Typ} (g : 
         let c = rw ite_w.is at g.casts in
         (record { deep = omega arith; casts = c.0 }, record { deep = omega arith; casts = c.1 }, record { deep = omega arith; casts = c.2 })
 
+    pub ite_first : Given ctx side (at + 1)
+    ite_first = part ite_below.0 ite_w.c_at refl
+
     module _ {x : Typ} (fx : Bottom 20 0 x) where
       ite_hint : HintIs g.W.text (some (basic 20)) 0 (Some x)
       ite_hint = hint_basic g.W.text fx (omega arith)
 
-      pub ite_first : Given ctx side (at + 1) (Some x)
-      ite_first = part ite_below.0 ite_w.c_at refl ite_hint
-
-      pub ite_stop : {q : Spot} {l l₁ : Lines} → Inferring ctx side (at + 1) (Some x) q l None l₁ → Whole g q l None l₁
+      pub ite_stop : (h : code.Option Typ) {q : Spot} {l l₁ : Lines} → Inferring ctx side (at + 1) (Some x) q l None l₁ → Whole g h q l None l₁
       unfolding infer if_rule
-      ite_stop d = rw ite_w.is (closed_none (stop _ (said ite_below.0 ite_w.c_at refl ite_hint d)))
+      ite_stop h d = rw ite_w.is (closed_none (stop _ (said ite_below.0 ite_w.c_at refl ite_hint d)))
 
       module _ {q : Spot} {l l₁ : Lines} {c : answer.Typed} (dc : Inferring ctx side (at + 1) (Some x) q l (Some c) l₁) where
         ite_1 : Done g.W.number g.W.text q (infer g.W.Γ q.function (at + 1) ite_w.c (some (basic 20))) (at + 1 + size ite_w.c) (max (127 - g.d) 0) l (Some c) l₁
@@ -408,21 +401,21 @@ module _ {ctx : Context} {side : Records} {at : ℕ} {h : code.Option Typ} (g : 
         pub ite_next : at + 1 < c.next
         ite_next = omega (arith, ite_1.next, size_pos ite_w.c)
 
-        pub ite_pair : GivenBoth ctx side c.next h
+        pub ite_pair : GivenBoth ctx side c.next
         ite_pair = pair ite_below.1 ite_below.2 ite_w.a_at ite_w.b_at ite_1.next
 
         module _ {t : Bool} (ft : (W : WorldOf ctx) → t ≡ is_bool (res W.Γ (asTy W.text c.typ))) where
-          pub ite_fail : t ≡ false → {l₂ : Lines} {r : code.Option answer.Typed} → Failed q 90 at no_value l₁ r l₂ → Whole g q l r l₂
+          pub ite_fail : (h : code.Option Typ) → t ≡ false → {l₂ : Lines} {r : code.Option answer.Typed} → Failed q 90 at no_value l₁ r l₂ → Whole g h q l r l₂
           unfolding infer if_rule
-          ite_fail b d = rw (d.none, ite_w.is) (closed_none (go _ ite_1 (refused _ (sym (ft g.W) ∙ b) (record { none = refl; put = d.put }))))
+          ite_fail h b d = rw (d.none, ite_w.is) (closed_none (go _ ite_1 (refused _ (sym (ft g.W) ∙ b) (record { none = refl; put = d.put }))))
 
-          pub ite_done : t ≡ true → {l₂ : Lines} {r : code.Option answer.Typed} → DoneBoth ctx side c.next at 91 h q l₁ r l₂ → Whole g q l r l₂
+          pub ite_done : (h : code.Option Typ) → t ≡ true → {l₂ : Lines} {r : code.Option answer.Typed} → DoneBoth ctx side c.next at 91 h q l₁ r l₂ → Whole g h q l r l₂
           unfolding infer if_rule size
-          ite_done b d =
+          ite_done h b d =
               rw ite_w.is
               (onward _ ite_1.said
               (onward_then (said_pass _ (sym (ft g.W) ∙ b))
-              (at_end (omega arith) (said_both ite_below.1 ite_below.2 ite_w.a_at ite_w.b_at ite_1.next at 91 d))))
+              (at_end (omega arith) (said_both ite_below.1 ite_below.2 ite_w.a_at ite_w.b_at ite_1.next h at 91 d))))
 
   -- ---- pre and arrow
 
@@ -434,12 +427,12 @@ module _ {ctx : Context} {side : Records} {at : ℕ} {h : code.Option Typ} (g : 
     unfolding depth ShallowCasts
     pre_below = record { deep = let z = rw pre_w.is at g.deep in omega arith; casts = rw pre_w.is at g.casts }
 
-    pub pre_given : Given ctx side (at + 1) h
-    pre_given = part pre_below pre_w.a_at refl own
+    pub pre_given : Given ctx side (at + 1)
+    pre_given = part pre_below pre_w.a_at refl
 
-    pub pre_done : {q : Spot} {l l₁ : Lines} {r : code.Option answer.Typed} → Inferring ctx side (at + 1) h q l r l₁ → Whole g q l r l₁
+    pub pre_done : (h : code.Option Typ) {q : Spot} {l l₁ : Lines} {r : code.Option answer.Typed} → Inferring ctx side (at + 1) h q l r l₁ → Whole g h q l r l₁
     unfolding infer size
-    pre_done d = rw pre_w.is (at_end (omega arith) (lower (omega arith) (said pre_below pre_w.a_at refl own d)))
+    pre_done h d = rw pre_w.is (at_end (omega arith) (lower (omega arith) (said pre_below pre_w.a_at refl (own h) d)))
 
   module _ (k : kind_at side at ≡ 69) where
     arrow_w : TwoParts src arrow g.e at
@@ -452,12 +445,12 @@ module _ {ctx : Context} {side : Records} {at : ℕ} {h : code.Option Typ} (g : 
         let c = rw arrow_w.is at g.casts in
         (record { deep = omega arith; casts = c.0 }, record { deep = omega arith; casts = c.1 })
 
-    pub arrow_pair : GivenBoth ctx side (at + 1) h
+    pub arrow_pair : GivenBoth ctx side (at + 1)
     arrow_pair = pair arrow_below.0 arrow_below.1 arrow_w.a_at arrow_w.b_at refl
 
-    pub arrow_done : {q : Spot} {l l₁ : Lines} {r : code.Option answer.Typed} → DoneBoth ctx side (at + 1) at 92 h q l r l₁ → Whole g q l r l₁
+    pub arrow_done : (h : code.Option Typ) {q : Spot} {l l₁ : Lines} {r : code.Option answer.Typed} → DoneBoth ctx side (at + 1) at 92 h q l r l₁ → Whole g h q l r l₁
     unfolding infer size
-    arrow_done d = rw arrow_w.is (at_end (omega arith) (said_both arrow_below.0 arrow_below.1 arrow_w.a_at arrow_w.b_at refl at 92 d))
+    arrow_done h d = rw arrow_w.is (at_end (omega arith) (said_both arrow_below.0 arrow_below.1 arrow_w.a_at arrow_w.b_at refl h at 92 d))
 
   -- ---- clocks
 
@@ -472,13 +465,13 @@ module _ {ctx : Context} {side : Records} {at : ℕ} {h : code.Option Typ} (g : 
     unfolding depth ShallowCasts
     when_below = record { deep = let z = rw when_w.holds.is at g.deep in omega arith; casts = rw when_w.holds.is at g.casts }
 
-    pub when_given : Given ctx side (at + 1) h
-    when_given = part when_below when_w.holds.a_at refl own
+    pub when_given : Given ctx side (at + 1)
+    when_given = part when_below when_w.holds.a_at refl
 
-    pub when_done : {q : Spot} {l l₁ l₂ : Lines} {r : code.Option answer.Typed} → ((W : WorldOf ctx) → Noted W.number q (clock W.Γ at (W.text (word_at side at))) l l₁)
-        → Inferring ctx side (at + 1) h q l₁ r l₂ → Whole g q l r l₂
+    pub when_done : (h : code.Option Typ) {q : Spot} {l l₁ l₂ : Lines} {r : code.Option answer.Typed} → ((W : WorldOf ctx) → Noted W.number q (clock W.Γ at (W.text (word_at side at))) l l₁)
+        → Inferring ctx side (at + 1) h q l₁ r l₂ → Whole g h q l r l₂
     unfolding infer size when_rule
-    when_done f d = rw when_w.holds.is (onward_then (said_add refl (rw when_w.name.text at (f g.W))) (at_end (omega arith) (lower (omega arith) (said when_below when_w.holds.a_at refl own d))))
+    when_done h f d = rw when_w.holds.is (onward_then (said_add refl (rw when_w.name.text at (f g.W))) (at_end (omega arith) (lower (omega arith) (said when_below when_w.holds.a_at refl (own h) d))))
 
   module _ (k : kind_at side at ≡ 79) where
     merge_w : WithName src at (λ c. TwoParts src (merge c) g.e at)
@@ -494,13 +487,13 @@ module _ {ctx : Context} {side : Records} {at : ℕ} {h : code.Option Typ} (g : 
         let c = rw merge_w.holds.is at g.casts in
         (record { deep = omega arith; casts = c.0 }, record { deep = omega arith; casts = c.1 })
 
-    pub merge_pair : GivenBoth ctx side (at + 1) h
+    pub merge_pair : GivenBoth ctx side (at + 1)
     merge_pair = pair merge_below.0 merge_below.1 merge_w.holds.a_at merge_w.holds.b_at refl
 
-    pub merge_done : {q : Spot} {l l₁ l₂ : Lines} {r : code.Option answer.Typed} → ((W : WorldOf ctx) → Noted W.number q (clock W.Γ at (W.text (word_at side at))) l l₁)
-        → DoneBoth ctx side (at + 1) at 131 h q l₁ r l₂ → Whole g q l r l₂
+    pub merge_done : (h : code.Option Typ) {q : Spot} {l l₁ l₂ : Lines} {r : code.Option answer.Typed} → ((W : WorldOf ctx) → Noted W.number q (clock W.Γ at (W.text (word_at side at))) l l₁)
+        → DoneBoth ctx side (at + 1) at 131 h q l₁ r l₂ → Whole g h q l r l₂
     unfolding infer size merge_rule
-    merge_done f d = rw merge_w.holds.is (onward_then (said_add refl (rw merge_w.name.text at (f g.W))) (at_end (omega arith) (said_both merge_below.0 merge_below.1 merge_w.holds.a_at merge_w.holds.b_at refl at 131 d)))
+    merge_done h f d = rw merge_w.holds.is (onward_then (said_add refl (rw merge_w.name.text at (f g.W))) (at_end (omega arith) (said_both merge_below.0 merge_below.1 merge_w.holds.a_at merge_w.holds.b_at refl h at 131 d)))
 
   -- ---- a field
 
@@ -512,27 +505,24 @@ module _ {ctx : Context} {side : Records} {at : ℕ} {h : code.Option Typ} (g : 
     unfolding depth ShallowCasts
     field_below = record { deep = let z = rw field_w.holds.is at g.deep in omega arith; casts = rw field_w.holds.is at g.casts }
 
-    pub field_given : Given ctx side (at + 1) None
-    field_given = part field_below field_w.holds.a_at refl (hint_none g.W.text)
+    pub field_given : Given ctx side (at + 1)
+    field_given = part field_below field_w.holds.a_at refl
 
-    pub field_stop : {q : Spot} {l l₁ : Lines} → Inferring ctx side (at + 1) None q l None l₁ → Whole g q l None l₁
+    pub field_stop : (h : code.Option Typ) {q : Spot} {l l₁ : Lines} → Inferring ctx side (at + 1) None q l None l₁ → Whole g h q l None l₁
     unfolding infer field_rule
-    field_stop d = rw field_w.holds.is (closed_none (stop _ (said field_below field_w.holds.a_at refl (hint_none g.W.text) d)))
+    field_stop h d = rw field_w.holds.is (closed_none (stop _ (said field_below field_w.holds.a_at refl (hint_none g.W.text) d)))
 
     module _ {q : Spot} {l l₁ : Lines} {a : answer.Typed} (da : Inferring ctx side (at + 1) None q l (Some a) l₁) where
       field_1 : Done g.W.number g.W.text q (infer g.W.Γ q.function (at + 1) field_w.holds.a none) (at + 1 + size field_w.holds.a) (max (127 - g.d) 0) l (Some a) l₁
       field_1 = said field_below field_w.holds.a_at refl (hint_none g.W.text) da
 
-      pub field_known : Known a.typ
-      field_known = field_1.known
-
       pub field_next : a.next ≡ at + size g.e
       unfolding size
       field_next = rw field_w.holds.is (omega (arith, field_1.next))
 
-      pub field_done : {l₂ : Lines} {r : code.Option Typ} → Ruled ctx q (λ W. field_of W.Γ at (W.text (word_at side at)) (res W.Γ (asTy W.text a.typ))) 67 l₁ r l₂ → Ends g q l r l₂
+      pub field_done : (h : code.Option Typ) {l₂ : Lines} {r : code.Option Typ} → Ruled ctx q (λ W. field_of W.Γ at (W.text (word_at side at)) (res W.Γ (asTy W.text a.typ))) 67 l₁ r l₂ → Ends g h q l r l₂
       unfolding infer field_rule
-      field_done d = rw field_w.holds.is (go _ field_1 (weaker (omega (arith, g.deep)) (rw field_w.name.text at (d g.W))))
+      field_done h d = rw field_w.holds.is (go _ field_1 (weaker (omega (arith, g.deep)) (rw field_w.name.text at (d g.W))))
 
   -- ---- an index
 
@@ -547,33 +537,30 @@ module _ {ctx : Context} {side : Records} {at : ℕ} {h : code.Option Typ} (g : 
         let c = rw index_w.is at g.casts in
         (record { deep = omega arith; casts = c.0 }, record { deep = omega arith; casts = c.1 })
 
-    pub index_first : Given ctx side (at + 1) None
-    index_first = part index_below.0 index_w.a_at refl (hint_none g.W.text)
+    pub index_first : Given ctx side (at + 1)
+    index_first = part index_below.0 index_w.a_at refl
 
-    pub index_stop : {q : Spot} {l l₁ : Lines} → Inferring ctx side (at + 1) None q l None l₁ → Whole g q l None l₁
+    pub index_stop : (h : code.Option Typ) {q : Spot} {l l₁ : Lines} → Inferring ctx side (at + 1) None q l None l₁ → Whole g h q l None l₁
     unfolding infer index_rule
-    index_stop d = rw index_w.is (closed_none (stop _ (said index_below.0 index_w.a_at refl (hint_none g.W.text) d)))
+    index_stop h d = rw index_w.is (closed_none (stop _ (said index_below.0 index_w.a_at refl (hint_none g.W.text) d)))
 
     module _ {q : Spot} {l l₁ : Lines} {a : answer.Typed} (da : Inferring ctx side (at + 1) None q l (Some a) l₁) where
       index_1 : Done g.W.number g.W.text q (infer g.W.Γ q.function (at + 1) index_w.a none) (at + 1 + size index_w.a) (max (127 - g.d) 0) l (Some a) l₁
       index_1 = said index_below.0 index_w.a_at refl (hint_none g.W.text) da
 
-      pub index_known : Known a.typ
-      index_known = index_1.known
-
       pub index_next : at + 1 < a.next
       index_next = omega (arith, index_1.next, size_pos index_w.a)
+
+      pub index_second : Given ctx side a.next
+      index_second = part index_below.1 index_w.b_at index_1.next
 
       module _ {x : Typ} (fx : Bottom 23 0 x) where
         index_hint : HintIs g.W.text (some (basic 23)) 0 (Some x)
         index_hint = hint_basic g.W.text fx (omega arith)
 
-        pub index_second : Given ctx side a.next (Some x)
-        index_second = part index_below.1 index_w.b_at index_1.next index_hint
-
-        pub index_stop₂ : {l₂ : Lines} → Inferring ctx side a.next (Some x) q l₁ None l₂ → Whole g q l None l₂
+        pub index_stop₂ : (h : code.Option Typ) {l₂ : Lines} → Inferring ctx side a.next (Some x) q l₁ None l₂ → Whole g h q l None l₂
         unfolding infer index_rule
-        index_stop₂ d = rw index_w.is (closed_none (go _ index_1 (stop _ (said index_below.1 index_w.b_at index_1.next index_hint d))))
+        index_stop₂ h d = rw index_w.is (closed_none (go _ index_1 (stop _ (said index_below.1 index_w.b_at index_1.next index_hint d))))
 
         module _ {l₂ : Lines} {b : answer.Typed} (db : Inferring ctx side a.next (Some x) q l₁ (Some b) l₂) where
           index_2 : Done g.W.number g.W.text q (infer g.W.Γ q.function (at + 1 + size index_w.a) index_w.b (some (basic 23))) (at + 1 + size index_w.a + size index_w.b) (max (127 - g.d) 0) l₁ (Some b) l₂
@@ -583,9 +570,9 @@ module _ {ctx : Context} {side : Records} {at : ℕ} {h : code.Option Typ} (g : 
           unfolding size
           index_end = rw index_w.is (omega (arith, index_2.next))
 
-          pub index_done : {l₃ : Lines} {r : code.Option Typ} → Ruled ctx q (λ W. index_of W.Γ at (asTy W.text a.typ) (asTy W.text b.typ)) (max 63 (a.typ.levels - 1)) l₂ r l₃ → Ends g q l r l₃
+          pub index_done : (h : code.Option Typ) {l₃ : Lines} {r : code.Option Typ} → Ruled ctx q (λ W. index_of W.Γ at (asTy W.text a.typ) (asTy W.text b.typ)) (max 63 (a.typ.levels - 1)) l₂ r l₃ → Ends g h q l r l₃
           unfolding infer index_rule
-          index_done d = rw index_w.is (go _ index_1 (go _ index_2 (weaker (omega (arith, index_1.low, g.deep)) (d g.W))))
+          index_done h d = rw index_w.is (go _ index_1 (go _ index_2 (weaker (omega (arith, index_1.low, g.deep)) (d g.W))))
 
   -- ---- a cast
 
@@ -614,12 +601,12 @@ module _ {ctx : Context} {side : Records} {at : ℕ} {h : code.Option Typ} (g : 
       pub cast_next : at < mid
       cast_next = omega (arith, cast_mid)
 
-      pub cast_given : Given ctx side mid None
-      cast_given = part cast_below cast_w.a_at cast_mid (hint_none g.W.text)
+      pub cast_given : Given ctx side mid
+      cast_given = part cast_below cast_w.a_at cast_mid
 
-      pub cast_stop : {q : Spot} {l l₁ : Lines} → Inferring ctx side mid None q l None l₁ → Whole g q l None l₁
+      pub cast_stop : (h : code.Option Typ) {q : Spot} {l l₁ : Lines} → Inferring ctx side mid None q l None l₁ → Whole g h q l None l₁
       unfolding infer cast_rule
-      cast_stop f = rw cast_w.is (closed_none (stop _ (said cast_below cast_w.a_at cast_mid (hint_none g.W.text) f)))
+      cast_stop h f = rw cast_w.is (closed_none (stop _ (said cast_below cast_w.a_at cast_mid (hint_none g.W.text) f)))
 
       module _ {q : Spot} {l l₁ : Lines} {a : answer.Typed} (da : Inferring ctx side mid None q l (Some a) l₁) where
         cast_1 : Done g.W.number g.W.text q (infer g.W.Γ q.function (at + 1 + levels cast_w.t) cast_w.a none) (at + 1 + levels cast_w.t + size cast_w.a) (max (127 - g.d) 0) l (Some a) l₁
@@ -629,33 +616,30 @@ module _ {ctx : Context} {side : Records} {at : ℕ} {h : code.Option Typ} (g : 
         unfolding size
         cast_end = rw cast_w.is (omega (arith, cast_1.next))
 
-        pub cast_done : {l₂ : Lines} {r : code.Option Typ} → Ruled ctx q (λ W. cast_of W.Γ at (asTy W.text to) (asTy W.text a.typ)) to.levels l₁ r l₂ → Ends g q l r l₂
+        pub cast_done : (h : code.Option Typ) {l₂ : Lines} {r : code.Option Typ} → Ruled ctx q (λ W. cast_of W.Γ at (asTy W.text to) (asTy W.text a.typ)) to.levels l₁ r l₂ → Ends g h q l r l₂
         unfolding infer cast_rule
-        cast_done c = rw cast_w.is (go _ cast_1 (weaker (omega (arith, g.deep, d.few)) (rw (read_is cast_typed d).is at (c g.W))))
+        cast_done h c = rw cast_w.is (go _ cast_1 (weaker (omega (arith, g.deep, d.few)) (rw (read_is cast_typed d).is at (c g.W))))
 
 -- ---- two parts that must agree
 
-module _ {ctx : Context} {side : Records} {at : ℕ} {h : code.Option Typ} (g : GivenBoth ctx side at h) where
-  abbrev pub both_first : Given ctx side at h
-  both_first = record { W = g.W; e = g.a; stands = g.a_at; d = g.d; top = g.top; deep = g.deep_a; casts = g.casts_a; known = g.known }
+module _ {ctx : Context} {side : Records} {at : ℕ} (g : GivenBoth ctx side at) where
+  abbrev pub both_first : Given ctx side at
+  both_first = record { W = g.W; e = g.a; stands = g.a_at; d = g.d; top = g.top; deep = g.deep_a; casts = g.casts_a }
 
   -- what is to be shown
-  abbrev pub Pair : (step c : ℕ) (q : Spot) (l : Lines) (r : code.Option answer.Typed) (l' : Lines) → Type 0
-  Pair step c q l r l' =
+  abbrev pub Pair : (h : code.Option Typ) (step c : ℕ) (q : Spot) (l : Lines) (r : code.Option answer.Typed) (l' : Lines) → Type 0
+  Pair h step c q l r l' =
       Done g.W.number g.W.text q
       (both g.W.Γ step c (infer g.W.Γ q.function at g.a) (infer g.W.Γ q.function (at + size g.a) g.b) (asHint g.W.text h))
       (at + size g.a + size g.b) (max (128 - g.d) (hint_levels h)) l r l'
 
-  pub both_stop : (step c : ℕ) {q : Spot} {l l₁ : Lines} → Inferring ctx side at h q l None l₁ → Pair step c q l None l₁
+  pub both_stop : (h : code.Option Typ) (step c : ℕ) {q : Spot} {l l₁ : Lines} → Inferring ctx side at h q l None l₁ → Pair h step c q l None l₁
   unfolding both
-  both_stop step c d = closed_none (stop _ (d both_first))
+  both_stop h step c d = closed_none (stop _ (d both_first))
 
-  module _ {q : Spot} {l l₁ : Lines} {a : answer.Typed} (da : Inferring ctx side at h q l (Some a) l₁) where
+  module _ (h : code.Option Typ) {q : Spot} {l l₁ : Lines} {a : answer.Typed} (da : Inferring ctx side at h q l (Some a) l₁) where
     pub both_1 : Done g.W.number g.W.text q (infer g.W.Γ q.function at g.a (asHint g.W.text h)) (at + size g.a) (max (128 - g.d) (hint_levels h)) l (Some a) l₁
     both_1 = da both_first
-
-    pub both_known : Known a.typ
-    both_known = both_1.known
 
     pub both_next : at < a.next
     both_next = omega (arith, both_1.next, size_pos g.a)
@@ -665,10 +649,10 @@ module _ {ctx : Context} {side : Records} {at : ℕ} {h : code.Option Typ} (g : 
     then_hint = option_or h (Some a.typ)
 
     pub both_hint : HintIs g.W.text (or_else (asHint g.W.text h) (asTy g.W.text a.typ)) (max a.typ.levels (hint_levels h)) then_hint
-    both_hint = second_hint g.W.text a.typ h both_known g.known
+    both_hint = second_hint g.W.text a.typ h
 
-    abbrev pub both_second : Given ctx side a.next then_hint
-    both_second = record { W = g.W; e = g.b; stands = rw both_1.next g.b_at; d = g.d; top = g.top; deep = g.deep_b; casts = g.casts_b; known = both_hint.known }
+    abbrev pub both_second : Given ctx side a.next
+    both_second = record { W = g.W; e = g.b; stands = rw both_1.next g.b_at; d = g.d; top = g.top; deep = g.deep_b; casts = g.casts_b }
 
     module _ {l₂ : Lines} {r : code.Option answer.Typed} (db : Inferring ctx side a.next then_hint q l₁ r l₂) where
       both_2 : Done g.W.number g.W.text q (infer g.W.Γ q.function (at + size g.a) g.b (or_else (asHint g.W.text h) (asTy g.W.text a.typ))) (at + size g.a + size g.b) (max (128 - g.d) (hint_levels then_hint)) l₁ r l₂
@@ -676,7 +660,7 @@ module _ {ctx : Context} {side : Records} {at : ℕ} {h : code.Option Typ} (g : 
           rw both_hint.is at
           (subst (λ (j : ℕ). Done g.W.number g.W.text q (infer g.W.Γ q.function j g.b (asHint g.W.text then_hint)) (j + size g.b) (max (128 - g.d) (hint_levels then_hint)) l₁ r l₂) both_1.next (db both_second))
 
-    pub both_stop₂ : (step c : ℕ) {l₂ : Lines} → Inferring ctx side a.next then_hint q l₁ None l₂ → Pair step c q l None l₂
+    pub both_stop₂ : (step c : ℕ) {l₂ : Lines} → Inferring ctx side a.next then_hint q l₁ None l₂ → Pair h step c q l None l₂
     unfolding both
     both_stop₂ step c d = closed_none (go _ both_1 (stop _ (both_2 d)))
 
@@ -686,8 +670,8 @@ module _ {ctx : Context} {side : Records} {at : ℕ} {h : code.Option Typ} (g : 
       unfolding both
       both_agree d = go _ both_1 (go _ (both_2 db) (weaker both_1.low (d g.W)))
 
-      pub both_refused : Ruled ctx q (λ W. agree_rule W.Γ step c (asTy W.text a.typ) (asTy W.text b.typ)) a.typ.levels l₂ None l₃ → Pair step c q l None l₃
+      pub both_refused : Ruled ctx q (λ W. agree_rule W.Γ step c (asTy W.text a.typ) (asTy W.text b.typ)) a.typ.levels l₂ None l₃ → Pair h step c q l None l₃
       both_refused d = closed_none (both_agree d)
 
-      pub both_done : {t : Typ} → Ruled ctx q (λ W. agree_rule W.Γ step c (asTy W.text a.typ) (asTy W.text b.typ)) a.typ.levels l₂ (Some t) l₃ → Pair step c q l (Some (record { typ = t; next = b.next })) l₃
+      pub both_done : {t : Typ} → Ruled ctx q (λ W. agree_rule W.Γ step c (asTy W.text a.typ) (asTy W.text b.typ)) a.typ.levels l₂ (Some t) l₃ → Pair h step c q l (Some (record { typ = t; next = b.next })) l₃
       both_done d = closed (both_agree d) (both_2 db).next

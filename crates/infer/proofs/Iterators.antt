@@ -31,14 +31,14 @@ use Rattle.lines.specs.declared.Spot.{Spot}
 use Rattle.lines.proofs.Laws.{noted_plain, said_return, said_pass, said_refuse, said_go, said_stop, said_then, said_halt}
 use Rattle.types.specs.Value.{Naming, asTy}
 use Rattle.types.specs.Number.{asHint}
-use Rattle.types.specs.declared.Context.{Context}
+use Rattle.types.specs.declared.context.Context.{Context}
 use Rattle.types.specs.declared.Typ.{Typ}
 use Rattle.rules.specs.World.{WorldOf, source_of, Listed, PortsOf}
 use Rattle.rules.specs.Post.{Given, Concludes, Inferring, Failed, typed}
 use Rattle.rules.specs.Flags.{Flags}
 use Rattle.rules.specs.Iterators.{Function, Iterated, TwoInputs, FoldStarts, fold_end}
 use Rattle.rules.specs.Lists.{GivenArrays, DoneArrays}
-use Rattle.rules.specs.declared.Typed as answer
+use Rattle.types.specs.declared.Typed as answer
 use Rattle.rules.specs.declared.iterators.ArraysLeft.{ArraysLeft}
 use Rattle.rules.specs.declared.iterators.Callee.{Callee}
 use Rattle.rules.specs.declared.iterators.FoldInputs.{FoldInputs}
@@ -116,7 +116,6 @@ module _ {ctx : Context} {side : Records} {list : ℕ} (g : GivenGather ctx side
         flags = (da gather_given).flags;
         many = (da gather_given).many ∙ g.many;
         low = fit.low;
-        known = fit.known;
         next = (da gather_given).next;
         rest = λ k seed hint d. gather_arrays k seed hint (said_then tt refl (said_pass _ (sym (da gather_given).flags.even ∙ t)) d);
       }
@@ -135,7 +134,7 @@ pub record Iterates (S : Source) (e : Expr) (at list : ℕ) (i : IterKind) (seed
   pub casts : ShallowCasts e → ShallowCastsEach es
   pub ends : list + 1 + sizes es ≡ at + size e
 
-module _ {ctx : Context} {side : Records} {at : ℕ} {h : code.Option Typ} (g : Given ctx side at h) (i : IterKind) where
+module _ {ctx : Context} {side : Records} {at : ℕ} (g : Given ctx side at) (i : IterKind) where
   -- an iterator without a seed
   unseeded : {list : ℕ} → kind_at side at ≡ iterate_kind i → list ≡ at + 1 → Iterates (source_of side g.W.text) g.e at list i (λ Γ f. none)
   unfolding infer size depth ShallowCasts
@@ -230,7 +229,7 @@ module _ (side : Records) (at list : ℕ) where
   folds None b m n = fold_of b.0.which (λ e. m (b.0.is ∙ e))
   folds (Some p) b m n = fold_from_of b.0.which (λ e. n (b.0.is ∙ e))
 
-module _ {ctx : Context} {side : Records} {at : ℕ} {h : code.Option Typ} (g : Given ctx side at h) (list : ℕ) where
+module _ {ctx : Context} {side : Records} {at : ℕ} (g : Given ctx side at) (list : ℕ) where
   -- the list stands behind the iterator's record
   pub list_behind : (seed : code.Option ℕ) → ListBehind side at seed list → at < list
   list_behind None b = omega (arith, b.1)
@@ -273,6 +272,20 @@ module _ {ctx : Context} {side : Records} {at : ℕ} {h : code.Option Typ} (g : 
         inside = z;
       }
 
+  -- what the call on it is given
+  abbrev pub seed_given : (seed : code.Option ℕ) (b : ListBehind side at seed list) {p : ℕ} → seed ≡ Some p → Given ctx side p
+  seed_given seed b {p} e =
+      let s = seed_at seed b p e in
+      record {
+        W = g.W;
+        e = s.e;
+        stands = s.stands;
+        d = g.d + 1;
+        top = omega arith;
+        deep = omega (arith, g.deep, s.deeper);
+        casts = s.casts;
+      }
+
   module _ (seed : code.Option ℕ) (b : ListBehind side at seed list) where
     abbrev pub w : Iterates (source_of side g.W.text) g.e at list (form side at list seed b) (seed_of seed b)
     w = iterates seed b
@@ -292,11 +305,11 @@ module _ {ctx : Context} {side : Records} {at : ℕ} {h : code.Option Typ} (g : 
     }
 
     -- all is said: E0140 to E0144
-    pub iterator_unfit : {q : Spot} {l l₁ : Lines} → ((x : GivenGather ctx side list) → DoneGather ctx side list (word_at side at) at x q l None l₁) → Whole g q l None l₁
-    iterator_unfit {q} d = nothing (rw (w.infers_as g.W.Γ q.function (asHint g.W.text h)) (d iterator_given (form side at list seed b) (seed_of seed b g.W.Γ q.function) (asHint g.W.text h)))
+    pub iterator_unfit : (h : code.Option Typ) {q : Spot} {l l₁ : Lines} → ((x : GivenGather ctx side list) → DoneGather ctx side list (word_at side at) at x q l None l₁) → Whole g h q l None l₁
+    iterator_unfit h {q} d = nothing (rw (w.infers_as g.W.Γ q.function (asHint g.W.text h)) (d iterator_given (form side at list seed b) (seed_of seed b g.W.Γ q.function) (asHint g.W.text h)))
 
-    module _ {q : Spot} {l l₁ : Lines} {r : Gathered} (dg : (x : GivenGather ctx side list) → DoneGather ctx side list (word_at side at) at x q l (Some r) l₁) where
-      abbrev pub iterator_ready : Ready ctx side list (word_at side at) at iterator_given q l r l₁
+    module _ {q : Spot} {l l₁ : Lines} {r : Gathered} {name : ℕ} (named : name ≡ word_at side at) (dg : (x : GivenGather ctx side list) → DoneGather ctx side list name at x q l (Some r) l₁) where
+      abbrev pub iterator_ready : Ready ctx side list name at iterator_given q l r l₁
       iterator_ready = dg iterator_given
 
       -- the function's inputs
@@ -308,36 +321,36 @@ module _ {ctx : Context} {side : Records} {at : ℕ} {h : code.Option Typ} (g : 
       iterator_end = iterator_ready.next ∙ w.ends
 
       -- what the last tests say, the iterator says
-      iterator_said : {v : Option Ty} {l₂ : Lines}
+      iterator_said : (h : code.Option Typ) {v : Option Ty} {l₂ : Lines}
           → Said g.W.number q (iterate_as g.W.Γ (form side at list seed b) at iterator_ready.ps (seed_of seed b g.W.Γ q.function) iterator_ready.ds (asTy g.W.text r.result)) v l₁ l₂
           → Said g.W.number q (infer g.W.Γ q.function at g.e (asHint g.W.text h)) v l l₂
-      iterator_said d = rw (w.infers_as g.W.Γ q.function (asHint g.W.text h)) (iterator_ready.rest (form side at list seed b) (seed_of seed b g.W.Γ q.function) (asHint g.W.text h) d)
+      iterator_said h d = rw (w.infers_as g.W.Γ q.function (asHint g.W.text h)) (rw named at (iterator_ready.rest (form side at list seed b) (seed_of seed b g.W.Γ q.function) (asHint g.W.text h) d))
 
-      iterator_done : {high : ℕ} {x : code.Option Typ} {l₂ : Lines} → high ≤ 68
+      iterator_done : (h : code.Option Typ) {high : ℕ} {x : code.Option Typ} {l₂ : Lines} → high ≤ 68
           → Concludes g.W.number g.W.text q (iterate_as g.W.Γ (form side at list seed b) at iterator_ready.ps (seed_of seed b g.W.Γ q.function) iterator_ready.ds (asTy g.W.text r.result)) high l₁ x l₂
-          → Ends g q l x l₂
-      iterator_done {high} e d = weaker {least = high} (omega (arith, g.deep, w.deeper)) (record { said = iterator_said d.said; low = d.low; known = d.known })
+          → Ends g h q l x l₂
+      iterator_done h {high} e d = weaker {least = high} (omega (arith, g.deep, w.deeper)) (record { said = iterator_said h d.said; low = d.low })
 
       -- ---- a map
 
       -- the arrays are as many as the inputs and agree with them, or E0145
-      pub map_done : form side at list seed b ≡ Map → {x : code.Option Typ} {l₂ : Lines}
+      pub map_done : (h : code.Option Typ) → form side at list seed b ≡ Map → {x : code.Option Typ} {l₂ : Lines}
           → ((num : Name → ℕ) (ρ : Naming) (Γ : Scope) (ds : List (ℕ × Ty)) (ps : List Port) (s : Option Typing) → Flags Γ ρ ds ps r.kept → length ps ≡ word_at ctx.records r.inputs → length ds ≡ word_at side list
           → Concludes num ρ q (iterate_as Γ Map at ps s ds (asTy ρ r.result)) (r.result.levels + 1) l₁ x l₂)
-          → Ends g q l x l₂
-      map_done is d =
+          → Ends g h q l x l₂
+      map_done h is d =
           let m = iterator_ready in
-          iterator_done {high = r.result.levels + 1} (omega (arith, m.low)) (rw is (d g.W.number g.W.text g.W.Γ m.ds m.ps (seed_of seed b g.W.Γ q.function) m.flags (sym m.inputs.stand.many) (m.many ∙ sym w.many)))
+          iterator_done h {high = r.result.levels + 1} (omega (arith, m.low)) (rw is (d g.W.number g.W.text g.W.Γ m.ds m.ps (seed_of seed b g.W.Γ q.function) m.flags (sym m.inputs.stand.many) (m.many ∙ sym w.many)))
 
       -- ---- a fold
 
       module _ (is : form side at list seed b ≡ Fold) where
         -- the function's inputs are not fit: E0145
-        pub fold_unfit : {l₂ : Lines} → ((W : WorldOf ctx) (ps : List Port) → Listed (source_of ctx.records W.text) ps r.inputs → FoldStarts W at ps (asTy W.text r.result) q l₁ None l₂)
-            → Whole g q l None l₂
-        fold_unfit d =
+        pub fold_unfit : (h : code.Option Typ) {l₂ : Lines} → ((W : WorldOf ctx) (ps : List Port) → Listed (source_of ctx.records W.text) ps r.inputs → FoldStarts W at ps (asTy W.text r.result) q l₁ None l₂)
+            → Whole g h q l None l₂
+        fold_unfit h d =
             let m = iterator_ready in
-            nothing (iterator_said (rw is (d g.W m.ps m.inputs (seed_of seed b g.W.Γ q.function) m.ds)))
+            nothing (iterator_said h (rw is (d g.W m.ps m.inputs (seed_of seed b g.W.Γ q.function) m.ds)))
 
         module _ {f : FoldInputs} {l₂ : Lines} (df : (W : WorldOf ctx) (ps : List Port) → Listed (source_of ctx.records W.text) ps r.inputs → FoldStarts W at ps (asTy W.text r.result) q l₁ (Some f) l₂) where
           abbrev pub fold_two : TwoInputs g.W iterator_ready.ps (asTy g.W.text r.result) l₁ f l₂
@@ -353,32 +366,17 @@ module _ {ctx : Context} {side : Records} {at : ℕ} {h : code.Option Typ} (g : 
           without_seed e = record { rest = λ d. rw (no_seed seed b e g.W.Γ q.function) (fold_unseeded at fold_two iterator_ready.ds d) }
 
           module _ {p : ℕ} (e : seed ≡ Some p) where
-            -- the seed under the accumulator's type as hint
-            abbrev pub seed_given : Given ctx side p (Some f.acc)
-            seed_given =
-                let s = seed_at seed b p e in
-                record {
-                  W = g.W;
-                  e = s.e;
-                  stands = s.stands;
-                  d = g.d + 1;
-                  top = omega arith;
-                  deep = omega (arith, g.deep, s.deeper);
-                  casts = s.casts;
-                  known = fold_two.known;
-                }
-
-            -- and its answer
+            -- its answer
             pub with_seed : {a : code.Option answer.Typed} {l₃ : Lines} → Inferring ctx side p (Some f.acc) q l₂ a l₃ → {start : code.Option Typ} → asHint g.W.text start ≡ typed g.W.text a → Seeded start l₃
             with_seed d is = record {
-              rest = λ u. rw ((seed_at seed b p e).is g.W.Γ q.function) (fold_seeded at fold_two iterator_ready.ds (infer g.W.Γ q.function p (seed_at seed b p e).e) (rw is (d seed_given).said) u);
+              rest = λ u. rw ((seed_at seed b p e).is g.W.Γ q.function) (fold_seeded at fold_two iterator_ready.ds (infer g.W.Γ q.function p (seed_at seed b p e).e) (rw is (d (seed_given seed b e)).said) u);
             }
 
           -- its seed, if it has a type, agrees with the first input and its arrays with the second, or E0145
-          pub fold_done : {start : code.Option Typ} {l₃ : Lines} → Seeded start l₃ → {x : code.Option Typ} {l₄ : Lines}
+          pub fold_done : (h : code.Option Typ) {start : code.Option Typ} {l₃ : Lines} → Seeded start l₃ → {x : code.Option Typ} {l₄ : Lines}
               → ((W : WorldOf ctx) (ds : List (ℕ × Ty)) (ps : List Port) → Flags W.Γ W.text ds ps r.kept
               → Concludes W.number W.text q (fold_end W.Γ at (asTy W.text f.acc) (asHint W.text start) (asTy W.text f.elem) ds (asTy W.text r.result)) r.result.levels l₃ x l₄)
-              → Ends g q l x l₄
-          fold_done t d =
+              → Ends g h q l x l₄
+          fold_done h t d =
               let m = iterator_ready in
-              iterator_done {high = r.result.levels} (omega (arith, m.low)) (rw is (t.rest (d g.W m.ds m.ps m.flags)))
+              iterator_done h {high = r.result.levels} (omega (arith, m.low)) (rw is (t.rest (d g.W m.ds m.ps m.flags)))

@@ -13,16 +13,16 @@ use Rattle.standing.proofs.Parts.{part, part_is, expr_in}
 use Rattle.lines.specs.declared.Lines.{Lines}
 use Rattle.lines.specs.declared.Spot.{Spot}
 use Rattle.types.specs.Number.{asHint}
-use Rattle.types.specs.declared.Context.{Context}
+use Rattle.types.specs.declared.context.Context.{Context}
 use Rattle.types.specs.declared.Typ.{Typ}
 use Rattle.rules.specs.World.{source_of}
 use Rattle.rules.specs.Post.{Given, Done, Inferring}
-use Rattle.rules.specs.declared.Typed as answer
+use Rattle.types.specs.declared.Typed as answer
 use Rattle.rules.proofs.Laws.{lower, at_end}
 use Rattle.infer.specs.Post.{Few, GivenWhole}
 use Rattle.infer.proofs.Steps.{hint_low}
 
-module _ {ctx : Context} {start : ℕ} {h : code.Option Typ} (g : GivenWhole ctx start h) where
+module _ {ctx : Context} {start : ℕ} (g : GivenWhole ctx start) where
   pub side_inside : start < length ctx.records.kinds.now
   side_inside = (expr_record (source_of ctx.records g.W.text) g.e start g.stands).in_kinds
 
@@ -36,7 +36,7 @@ module _ {ctx : Context} {start : ℕ} {h : code.Option Typ} (g : GivenWhole ctx
     side_few = rw (k, part_is ctx.records.kinds.now start) (omega (arith, length-drop start ctx.records.kinds.now, g.few))
 
     -- the side stands at its start
-    abbrev pub side_given : Given ctx side 0 h
+    abbrev pub side_given : Given ctx side 0
     side_given = record {
       W = g.W;
       e = g.e;
@@ -45,9 +45,8 @@ module _ {ctx : Context} {start : ℕ} {h : code.Option Typ} (g : GivenWhole ctx
       top = omega arith;
       deep = omega (arith, g.shallow.deep);
       casts = g.shallow.casts;
-      known = g.known;
     }
 
-    pub side_done : {q : Spot} {l l' : Lines} {r : code.Option answer.Typed} → Inferring ctx side 0 h q l r l'
+    pub side_done : (h : code.Option Typ) {q : Spot} {l l' : Lines} {r : code.Option answer.Typed} → Inferring ctx side 0 h q l r l'
         → Done g.W.number g.W.text q (infer g.W.Γ q.function 0 g.e (asHint g.W.text h)) (size g.e) 127 l r l'
-    side_done d = at_end (omega arith) (lower (omega (arith, hint_low h)) (d side_given))
+    side_done h d = at_end (omega arith) (lower (omega (arith, hint_low h)) (d side_given))

@@ -8,6 +8,8 @@ use mathlib.Core.Option.{Option, none, some}
 use lib.ListN.{length, get_or}
 use Rattle.std.specs.Prelude as code
 use Rattle.std.specs.Prelude.{Some, None}
+use Rattle.std.specs.Option.{option_or}
+use denote.Bor.{Bor}
 use Rattle.lustre.specs.Name.{Name}
 use Rattle.lustre.specs.Types.{Ty, basic}
 use Rattle.lustre.specs.Expr.{Expr, Exprs, []ᵉ, ◌∷ᵉ◌, size, sizes}
@@ -23,11 +25,11 @@ use Rattle.lines.specs.declared.Spot.{Spot}
 use Rattle.lines.proofs.Laws.{said_go, said_then}
 use Rattle.types.specs.Value.{Naming, Bottom}
 use Rattle.types.specs.Number.{asHint, Hinted}
-use Rattle.types.specs.declared.Context.{Context}
+use Rattle.types.specs.declared.context.Context.{Context}
 use Rattle.types.specs.declared.Typ.{Typ}
 use Rattle.types.proofs.Values.{bottom_basic}
 use Rattle.rules.specs.Post.{Given, Done, Concludes, HintIs, hint_levels}
-use Rattle.rules.specs.declared.Typed.{Typed}
+use Rattle.types.specs.declared.Typed.{Typed}
 
 -- the word of the record at a place
 abbrev pub word_at : Records → ℕ → ℕ
@@ -38,19 +40,19 @@ abbrev pub HintedOf : (ctx : Context) (h : code.Option Typ) (f : Aliases → Opt
 HintedOf ctx h f r = Hinted ctx.records.kinds.now ctx.records.words.now ctx.scope.now.entries h f r
 
 -- what is to be shown of an expression
-abbrev pub Whole : {ctx : Context} {side : Records} {at : ℕ} {h : code.Option Typ} (g : Given ctx side at h) (q : Spot) (l : Lines) (r : code.Option Typed) (l' : Lines) → Type 0
-Whole {at = at} {h = h} g q l r l' =
+abbrev pub Whole : {ctx : Context} {side : Records} {at : ℕ} (g : Given ctx side at) (h : code.Option Typ) (q : Spot) (l : Lines) (r : code.Option Typed) (l' : Lines) → Type 0
+Whole {at = at} g h q l r l' =
     Done g.W.number g.W.text q (infer g.W.Γ q.function at g.e (asHint g.W.text h))
     (at + size g.e) (max (128 - g.d) (hint_levels h)) l r l'
 
 -- and of the type that its rule gives
-abbrev pub Ends : {ctx : Context} {side : Records} {at : ℕ} {h : code.Option Typ} (g : Given ctx side at h) (q : Spot) (l : Lines) (r : code.Option Typ) (l' : Lines) → Type 0
-Ends {at = at} {h = h} g q l r l' =
+abbrev pub Ends : {ctx : Context} {side : Records} {at : ℕ} (g : Given ctx side at) (h : code.Option Typ) (q : Spot) (l : Lines) (r : code.Option Typ) (l' : Lines) → Type 0
+Ends {at = at} g h q l r l' =
     Concludes g.W.number g.W.text q (infer g.W.Γ q.function at g.e (asHint g.W.text h)) (max (128 - g.d) (hint_levels h)) l r l'
 
 -- no type
 pub nothing : {num : Name → ℕ} {ρ : Naming} {q : Spot} {s : Out Ty} {end high : ℕ} {l l' : Lines} → Said num q s none l l' → Done num ρ q s end high l None l'
-nothing d = record { said = d; low = tt; known = tt; next = tt }
+nothing d = record { said = d; low = tt; next = tt }
 
 -- what is said from where nothing was said before
 pub said_from : {A : Type 0} {num : Name → ℕ} {q : Spot} {s : Out A} {v : Option A} {l l₁ l' : Lines} → l₁ ≡ l → Said num q s v l₁ l' → Said num q s v l l'
@@ -59,14 +61,10 @@ said_from e d = rw e at d
 -- something said before an expression that is typed last
 module _ {A : Type 0} {num : Name → ℕ} {ρ : Naming} {q : Spot} {s : Out A} {a : A} {end high : ℕ} {l l₁ l' : Lines} {r : code.Option Typed} where
   pub onward : (k : A → Out Ty) → Said num q s (some a) l l₁ → Done num ρ q (k a) end high l₁ r l' → Done num ρ q (s >>= k) end high l r l'
-  onward k d f = record { said = said_go k a refl d f.said; low = f.low; known = f.known; next = f.next }
+  onward k d f = record { said = said_go k a refl d f.said; low = f.low; next = f.next }
 
   pub onward_then : {k : Out Ty} → Said num q s (some a) l l₁ → Done num ρ q k end high l₁ r l' → Done num ρ q (s >> k) end high l r l'
-  onward_then d f = record { said = said_then a refl d f.said; low = f.low; known = f.known; next = f.next }
-
--- what an expression is given, whatever its hint
-pub unhinted : {ctx : Context} {side : Records} {at : ℕ} {h : code.Option Typ} → Given ctx side at h → Given ctx side at None
-unhinted g = record { W = g.W; e = g.e; stands = g.stands; d = g.d; top = g.top; deep = g.deep; casts = g.casts; known = tt }
+  onward_then d f = record { said = said_then a refl d f.said; low = f.low; next = f.next }
 
 -- ---- hints
 
@@ -77,14 +75,13 @@ hint_low (Some t) = omega arith
 
 -- no hint
 pub hint_none : (ρ : Naming) → HintIs ρ none 0 None
-hint_none ρ = record { is = refl; low = omega arith; known = tt }
+hint_none ρ = record { is = refl; low = omega arith }
 
 -- a basic type as hint
 pub hint_basic : (ρ : Naming) {k n : ℕ} {t : Typ} → Bottom k n t → k ≤ 32 → HintIs ρ (some (basic k)) 0 (Some t)
 hint_basic ρ {k} {n} b h = record {
   is = ap (λ (u : Ty). some u) (b.is ρ ∙ bottom_basic ρ k n (λ e. omega arith) (λ e. omega arith));
   low = omega (arith, b.flat);
-  known = λ e. absurd (omega (arith, b.base));
 }
 
 -- ---- expressions one after another
@@ -107,3 +104,8 @@ pub length_infers : (Γ : Scope) (f : Bool) (at : ℕ) (es : Exprs) → length (
 unfolding infer count
 length_infers Γ f at []ᵉ = refl
 length_infers Γ f at (e ∷ᵉ es) = ap suc (length_infers Γ f (at + size e) es)
+
+-- a hint, or else another, and what they point to
+pub copied_or : (h : code.Option (Bor Typ)) (x : Bor Typ) → code.option_copied (option_or h (Some x)) ≡ option_or (code.option_copied h) (Some x.now)
+copied_or None x = refl
+copied_or (Some y) x = refl

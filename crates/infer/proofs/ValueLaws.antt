@@ -27,7 +27,7 @@ use Rattle.lines.proofs.Laws.{noted_none, noted_named, said_return, said_add, sa
 use Rattle.types.specs.Value.{Injective, asTy, Bottom}
 use Rattle.types.specs.Number.{asHint}
 use Rattle.types.specs.Place.{Read}
-use Rattle.types.specs.declared.Context.{Context}
+use Rattle.types.specs.declared.context.Context.{Context}
 use Rattle.types.specs.declared.Typ.{Typ}
 use Rattle.types.proofs.Values.{bottom_name}
 use Rattle.rules.specs.World.{WorldOf, source_of, Typed, PortsOf}
@@ -36,7 +36,7 @@ use Rattle.rules.specs.Ports.{PortFound}
 use Rattle.rules.specs.Marks.{Marked}
 use Rattle.rules.specs.Structs.{Fields, Declared}
 use Rattle.rules.specs.Lists.{GivenValue, DoneValue, GivenValues, DoneValues}
-use Rattle.rules.specs.declared.Typed as answer
+use Rattle.types.specs.declared.Typed as answer
 use Rattle.rules.specs.declared.structs.ValuesLeft.{ValuesLeft}
 use Rattle.rules.proofs.Laws.{apart, closed, weaker}
 use Rattle.rules.proofs.Places.{read_is}
@@ -87,8 +87,8 @@ module _ {ctx : Context} {side : Records} {at list : ℕ} (g : GivenValue ctx si
       value_is = (read_is value_typed rd).is
 
       -- the value under its field's type as hint
-      abbrev pub value_given : Given ctx side (at + 1) (Some want)
-      value_given = record { W = g.W; e = g.e; stands = g.stands; d = g.d; top = g.top; deep = g.deep; casts = g.casts; known = rd.known }
+      abbrev pub value_given : Given ctx side (at + 1)
+      value_given = record { W = g.W; e = g.e; stands = g.stands; d = g.d; top = g.top; deep = g.deep; casts = g.casts }
 
       value_tried : {q : Spot} {l l₁ : Lines} {a : code.Option answer.Typed} → Inferring ctx side (at + 1) (Some want) q l a l₁
           → Said g.W.number q (try (infer g.W.Γ q.function (at + 1) g.e (some value_type))) (some (typed g.W.text a)) l l₁
@@ -220,7 +220,7 @@ module _ {ctx : Context} {side : Records} {at list k step : ℕ} {g : GivenValue
 
 -- ---- the struct
 
-module _ {ctx : Context} {side : Records} {at : ℕ} {h : code.Option Typ} (g : Given ctx side at h) (k : kind_at side at ≡ 75) where
+module _ {ctx : Context} {side : Records} {at : ℕ} (g : Given ctx side at) (k : kind_at side at ≡ 75) where
   abbrev here : WithName (source_of side g.W.text) at (λ x. inversions.Values (source_of side g.W.text) (struct x) g.e at)
   here = struct_here (source_of side g.W.text) g.e at g.stands k
 
@@ -245,11 +245,11 @@ module _ {ctx : Context} {side : Records} {at : ℕ} {h : code.Option Typ} (g : 
   unfolding size
   struct_ends = omega (arith, ap size struct_is)
 
-  module _ {name : ℕ} (small : name < 512) (is : (W : WorldOf ctx) → W.text name ≡ struct_name W.Γ (W.text (word_at side at))) (q : Spot) {l l₁ : Lines} where
+  module _ {name : ℕ} (is : (W : WorldOf ctx) → W.text name ≡ struct_name W.Γ (W.text (word_at side at))) (q : Spot) {l l₁ : Lines} where
     -- no such record: E0125
-    pub struct_unknown : ((W : WorldOf ctx) → Declared W at name q l None l₁) → Whole g q l None l₁
+    pub struct_unknown : (h : code.Option Typ) → ((W : WorldOf ctx) → Declared W at name q l None l₁) → Whole g h q l None l₁
     unfolding infer
-    struct_unknown d = nothing (rw (struct_is, ← is g.W) (d g.W (infersⁱ g.W.Γ q.function (at + 2) here.holds.values) (asHint g.W.text h)))
+    struct_unknown h d = nothing (rw (struct_is, ← is g.W) (d g.W (infersⁱ g.W.Γ q.function (at + 2) here.holds.values) (asHint g.W.text h)))
 
     module _ {list : ℕ} (dc : (W : WorldOf ctx) → Declared W at name q l (Some list) l₁) where
       abbrev fit : Fields g.W name l list l₁
@@ -275,16 +275,16 @@ module _ {ctx : Context} {side : Records} {at : ℕ} {h : code.Option Typ} (g : 
       struct_fields = record { text = g.W.text; ps = fit.fs; listed = fit.listed }
 
       -- all is said, E0128 for each field not given, and the type is the record's
-      pub struct_done : {a : ValuesLeft} {l₂ l₃ : Lines}
+      pub struct_done : (h : code.Option Typ) {a : ValuesLeft} {l₂ l₃ : Lines}
           → ((x : GivenValues ctx side (at + 2) list (word_at side (at + 1))) → DoneValues ctx side (at + 2) list (word_at side (at + 1)) at x q l₁ a l₂)
           → ((x : PortsOf ctx.records list) (num : Name → ℕ) → ((i : ℕ) → num (x.text i) ≡ i) → (xs : List Name) → Marked x.text xs a.marks.bits → Noted num q (missing at x.ps xs) l₂ l₃)
           → {t : Typ} → Bottom 33 name t
-          → Whole g q l (Some (record { typ = t; next = a.next })) l₃
+          → Whole g h q l (Some (record { typ = t; next = a.next })) l₃
       unfolding infer
-      struct_done da dm {t} b =
+      struct_done h da dm {t} b =
           closed
           (weaker {least = 0} (omega arith)
           (rw (struct_is, ← is g.W)
           (onward.struct_done at fit _ (asHint g.W.text h) t (da struct_given).said (dm struct_fields g.W.number g.W.back _ (da struct_given).marked)
-          (record { is = b.is g.W.text ∙ bottom_name g.W.text 33 name refl; low = omega (arith, b.flat); known = λ z. rw b.name small }))))
+          (record { is = b.is g.W.text ∙ bottom_name g.W.text 33 name refl; low = omega (arith, b.flat) }))))
           ((da struct_given).next ∙ struct_ends)

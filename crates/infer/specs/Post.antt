@@ -16,14 +16,14 @@ use Rattle.standing.specs.Owed.{There}
 use Rattle.lines.specs.Lines.{Said}
 use Rattle.lines.specs.declared.Lines.{Lines}
 use Rattle.lines.specs.declared.Spot.{Spot}
-use Rattle.types.specs.Value.{asTy, Known}
+use Rattle.types.specs.Value.{asTy}
 use Rattle.types.specs.Number.{asHint}
-use Rattle.types.specs.declared.Context.{Context}
+use Rattle.types.specs.declared.context.Context.{Context}
 use Rattle.types.specs.declared.Typ.{Typ}
 use Rattle.rules.specs.World.{WorldOf, source_of, Listed}
 use Rattle.rules.specs.Post.{Done, hint_levels}
 use Rattle.rules.specs.Flags.{Flags}
-use Rattle.rules.specs.declared.Typed.{Typed}
+use Rattle.types.specs.declared.Typed.{Typed}
 use Rattle.infer.specs.declared.Gathered.{Gathered}
 
 -- the records of a part are at most so many
@@ -41,8 +41,8 @@ pub record Kind {X : Type 0} (kind_of : X → ℕ) (side : Records) (at : ℕ) :
 
 -- ---- two parts that must agree
 
--- the expressions a and b one after the other, at level d, and a hint
-pub record GivenBoth (ctx : Context) (side : Records) (at : ℕ) (h : code.Option Typ) : Type 0 where
+-- the expressions a and b one after the other, at level d
+pub record GivenBoth (ctx : Context) (side : Records) (at : ℕ) : Type 0 where
   pub W : WorldOf ctx
   pub a : Expr
   pub b : Expr
@@ -54,11 +54,10 @@ pub record GivenBoth (ctx : Context) (side : Records) (at : ℕ) (h : code.Optio
   pub deep_b : d + depth b ≤ 61
   pub casts_a : ShallowCasts a
   pub casts_b : ShallowCasts b
-  pub known : IfSome h Known
 
 abbrev pub DoneBoth : (ctx : Context) (side : Records) (at step c : ℕ) (h : code.Option Typ) (q : Spot) (l : Lines) (r : code.Option Typed) (l' : Lines) → Type 0
 DoneBoth ctx side at step c h q l r l' =
-    (g : GivenBoth ctx side at h) →
+    (g : GivenBoth ctx side at) →
     Done g.W.number g.W.text q
     (both g.W.Γ step c (infer g.W.Γ q.function at g.a) (infer g.W.Γ q.function (at + size g.a) g.b) (asHint g.W.text h))
     (at + size g.a + size g.b) (max (128 - g.d) (hint_levels h)) l r l'
@@ -85,7 +84,6 @@ pub record Ready (ctx : Context) (side : Records) (list name step : ℕ) (g : Gi
   pub flags : Flags g.W.Γ g.W.text ds ps r.kept
   pub many : length ds ≡ count g.es
   pub low : r.result.levels ≤ 67
-  pub known : Known r.result
   pub next : r.next ≡ list + 1 + sizes g.es
   pub rest : (k : IterKind) (seed : Option Typing) (hint : Option Ty) {v : Option Ty} {l'' : Lines}
       → Said g.W.number q (iterate_as g.W.Γ k step ps seed ds (asTy g.W.text r.result)) v l' l''
@@ -107,11 +105,10 @@ ListBehind side at (Some p) list =
 
 -- ---- the whole
 
--- the right-hand side e from the record `start` of the whole records on, and a hint
-pub record GivenWhole (ctx : Context) (start : ℕ) (h : code.Option Typ) : Type 0 where
+-- the right-hand side e from the record `start` of the whole records on
+pub record GivenWhole (ctx : Context) (start : ℕ) : Type 0 where
   pub W : WorldOf ctx
   pub few : Few ctx.records
   pub e : Expr
   pub stands : ExprAt (source_of ctx.records W.text) e start
   pub shallow : ShallowExpr e
-  pub known : IfSome h Known

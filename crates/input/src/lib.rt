@@ -18,6 +18,7 @@ fn is_blank(kinds: &[u8], text: &[u8]) -> bool
 }
 
 // The first refusal that applies; else the number of names, or none where the file is blank. `work` is the length of the work memory.
+// Kept: kinds and words are two parameters, since C lends them so, and here it is first told that they are equally long.
 #[tactic(auto, unfolding(crate::specs::Input::judged, lustre::specs::Answer::lowest, lustre::specs::Answer::refuse, lustre::specs::Answer::unless_refused, lustre::specs::Answer::bad_sizes, lustre::specs::Answer::short_work))]
 pub fn check_input(
     kinds: &[u8],

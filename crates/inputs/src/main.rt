@@ -9,6 +9,7 @@ use std::io;
 use std::io::Read;
 
 // Room for the kinds and words of a case and for its text: a little more than document 01 lets pass.
+// Kept: plain arrays, of which `read_part` lends the filled part; an `ArrayVec` would be filled first.
 const RECORDS: usize = 4200;
 
 const TEXT: usize = 16500;

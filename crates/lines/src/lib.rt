@@ -9,6 +9,7 @@ ghost use Rattle.lines.specs.Lines.{Put};
 use lustre::NONE;
 
 // What is constant in one equation: a line's place, number and equation, and whether the node is a function.
+// Kept: a spot goes beside the lines and is no field of them, since it stays while they go on: each contract would have to say that.
 #[derive(Clone, Copy)]
 pub struct Spot {
     pub place: u64,

@@ -6,7 +6,6 @@ use mathlib.Core.Path.{◌≡◌, refl, sym, ◌∙◌, ap, subst}
 use mathlib.Core.Logic.{⊎_elim}
 use mathlib.Core.Bool.{Bool, false, not, ◌&&◌, and-true, and-false}
 use mathlib.Core.List.{List, [], Memᴰ}
-use lib.ListN.{length}
 use lib.Dec.{ltb}
 use borrow.Author.Tests.{eq-eqb, ne_eqb, ltb-true, ltb-false}
 use Rattle.demands.proofs.Sets.{mustnt, split}
@@ -29,7 +28,6 @@ first_skips {ws} {a} {j} {r} h x low k =
 
 -- what the loop keeps: the rows of the names below a are cleared
 pub record Clearing (ws names ws' : List ℕ) (a : ℕ) : Type 0 where
-  pub long : length ws' ≡ length ws
   pub done : (x y : ℕ) → x < a → y < 512 → has ws' x y ≡ (has ws x y && not (has names 0 x))
   pub kept : (x y : ℕ) → a ≤ x → y < 512 → has ws' x y ≡ has ws x y
 
@@ -38,9 +36,9 @@ uncleared : {b : Bool} (t : Bool) → b ≡ false → t ≡ (t && not b)
 uncleared t e = sym (ap (λ (u : Bool). t && not u) e ∙ and-true t)
 
 pub clearing_start : (ws names : List ℕ) → Clearing ws names ws 0
-clearing_start ws names = record { long = refl; done = λ x y l k. absurd (omega arith); kept = λ x y l k. refl }
+clearing_start ws names = record { done = λ x y l k. absurd (omega arith); kept = λ x y l k. refl }
 
-module _ {ws names ws' ws'' : List ℕ} {a b : ℕ} (c : Clearing ws names ws' a) (n : First names 0 a b) (e : Emptied ws' b ws'') (same : length ws'' ≡ length ws') where
+module _ {ws names ws' ws'' : List ℕ} {a b : ℕ} (c : Clearing ws names ws' a) (n : First names 0 a b) (e : Emptied ws' b ws'') where
   -- another row stays as it is
   other : (x y : ℕ) → (x ≡ b → ⊥) → y < 512 → has ws'' x y ≡ has ws' x y
   other x y m k = e.edges x y k ∙ ap (λ (t : Bool). has ws' x y && not t) (ne_eqb x b m) ∙ and-true (has ws' x y)
@@ -58,7 +56,6 @@ module _ {ws names ws' ws'' : List ℕ} {a b : ℕ} (c : Clearing ws names ws' a
   pub clearing_more : Clearing ws names ws'' (b + 1)
   clearing_more =
       record {
-        long = same ∙ c.long;
         done = λ x y p k.
             ⊎_elim
             (λ (q : x ≡ b). subst (λ (z : ℕ). has ws'' z y ≡ (has ws z y && not (has names 0 z))) (sym q) (emptied y k))

@@ -3,17 +3,18 @@
 use Prim.Native.Nat.{ℕ, zero, suc, ◌+◌, ◌*◌, ◌-◌, ◌≤◌, ◌<◌, ◌/◌, ◌%◌, ◌^◌}
 use native.Mathlib.Omega.{arith}
 use native.Mathlib.Nat.{le_refl, le_trans, lt_of_le_of_lt}
-use mathlib.Core.Path.{◌≡◌, sym, ◌∙◌, ap, subst}
+use mathlib.Core.Path.{◌≡◌, refl, sym, ◌∙◌, ap, subst}
 use mathlib.Core.Logic.{◌⊎◌, inl, inr, ⊎_elim}
 use mathlib.Core.Bool.{Bool, true, false}
 use mathlib.Core.List.{List, [], ◌∷◌, Memᴰ}
-use lib.ListN.{get_or}
+use lib.ListN.{length, get_or, take, drop}
 use lib.Dec.{eqb}
 use lib.Count.{count_trailing_zeros}
 use lib.Pow.{shr_le}
 use borrow.Author.Tests.{eqb-true, eqb-false}
 use Rattle.demands.specs.Reading.{Each}
 use Rattle.demands.proofs.Sets.{split}
+use Rattle.std.proofs.lemmas.List.{places}
 use Rattle.std.specs.Prelude.{Option, None, Some}
 use Rattle.loops.specs.declared.RowNames.{RowNames}
 use Rattle.loops.specs.Rows.{bit, has, passing, row_from, First, Gives}
@@ -77,50 +78,53 @@ module _ (ws : List ℕ) (a : ℕ) where
       ∙ row_skip t (j + 1) (omega arith) (λ i b. subst (λ (x : ℕ). has ws a x ≡ false) (let e : j + suc i ≡ j + 1 + i = omega arith in e) (n (suc i) (omega arith)))
       ∙ ap (row_from ws a) (let e : j + 1 + t ≡ j + suc t = omega arith in e)
 
-  -- names of the word that j is in, from j on
-  in_word : (j i : ℕ) → j % 64 + i < 64 → has ws a (j + i) ≡ bit (get_or ws (8 * a + j / 64) 0 / 2 ^ (j % 64)) i
-  unfolding has
-  in_word j i h =
-      let word : (j + i) / 64 ≡ j / 64 = omega arith in
-      let place : (j + i) % 64 ≡ j % 64 + i = omega arith in
-      ap (λ (x : ℕ). bit (get_or ws (8 * a + x) 0) ((j + i) % 64)) word ∙ ap (bit (get_or ws (8 * a + j / 64) 0)) place ∙ sym (bit_shr (get_or ws (8 * a + j / 64) 0) (j % 64) i)
+-- the word k of a row, from the name at place s in it on
+module _ (ws : List ℕ) (k s : ℕ) where
+  v : ℕ
+  v = get_or ws k 0 / 2 ^ s
 
-  -- the rest of a word is 0
-  pub next_word : (j : ℕ) → j < 512 → get_or ws (8 * a + j / 64) 0 / 2 ^ (j % 64) ≡ 0 → row_from ws a j ≡ row_from ws a (j - j % 64 + 64)
-  next_word j h z =
-      row_skip (64 - j % 64) j (omega arith) (λ i b. in_word j i (omega arith) ∙ ap (λ (x : ℕ). bit x i) z ∙ bit_zero i)
-      ∙ ap (row_from ws a) (let e : j + (64 - j % 64) ≡ j - j % 64 + 64 = omega arith in e)
+  in_word : (i : ℕ) → s + i < 64 → has ws 0 (64 * k + s + i) ≡ bit v i
+  unfolding has v
+  in_word i h =
+      let word : 8 * 0 + (64 * k + s + i) / 64 ≡ k = omega arith in
+      let place : (64 * k + s + i) % 64 ≡ s + i = omega arith in
+      ap (λ (x : ℕ). bit (get_or ws x 0) ((64 * k + s + i) % 64)) word ∙ ap (bit (get_or ws k 0)) place ∙ sym (bit_shr (get_or ws k 0) s i)
 
-  -- the rest of a word is not 0
-  module _ (j : ℕ) (h : j < 512) (n : get_or ws (8 * a + j / 64) 0 / 2 ^ (j % 64) ≡ 0 → ⊥) (small : get_or ws (8 * a + j / 64) 0 < 2 ^ 64) where
-    v : ℕ
-    v = get_or ws (8 * a + j / 64) 0 / 2 ^ (j % 64)
-
-    t : ℕ
-    t = count_trailing_zeros 64 v
-
-    v_small : v < 2 ^ 64
+  module _ (h : k < 8) (b : s < 64) where
+    -- it is 0
+    pub next_word : get_or ws k 0 / 2 ^ s ≡ 0 → row_from ws 0 (64 * k + s) ≡ row_from ws 0 (64 * (k + 1) + 0)
     unfolding v
-    v_small = lt_of_le_of_lt (shr_le (get_or ws (8 * a + j / 64) 0) (j % 64)) small
+    next_word z =
+        row_skip ws 0 (64 - s) (64 * k + s) (omega arith) (λ i l. in_word i (omega arith) ∙ ap (λ (x : ℕ). bit x i) z ∙ bit_zero i)
+        ∙ ap (row_from ws 0) (let e : 64 * k + s + (64 - s) ≡ 64 * (k + 1) + 0 = omega arith in e)
 
-    set_there : bit v t ≡ true
-    unfolding v t
-    set_there = one_above v n v_small
+    -- it is not 0
+    module _ (n : get_or ws k 0 / 2 ^ s ≡ 0 → ⊥) (small : get_or ws k 0 < 2 ^ 64) where
+      t : ℕ
+      t = count_trailing_zeros 64 v
 
-    within : j % 64 + t < 64
-    unfolding v
-    within = bit_below 64 (get_or ws (8 * a + j / 64) 0) (j % 64 + t) small (sym (bit_shr (get_or ws (8 * a + j / 64) 0) (j % 64) t) ∙ set_there)
+      v_small : v < 2 ^ 64
+      unfolding v
+      v_small = lt_of_le_of_lt (shr_le (get_or ws k 0) s) small
 
-    pub first_bit : First ws a j (j + count_trailing_zeros 64 (get_or ws (8 * a + j / 64) 0 / 2 ^ (j % 64)))
-    unfolding v t
-    first_bit =
-        let w : j % 64 + t < 64 = within in
-        record {
-          name = omega arith;
-          after = omega arith;
-          rest = row_skip t j (omega arith) (λ i b. in_word j i (omega arith) ∙ zeros_below v n v_small i b);
-          there = in_word j t w ∙ set_there;
-        }
+      set_there : bit v t ≡ true
+      unfolding v t
+      set_there = one_above v n v_small
+
+      within : s + t < 64
+      unfolding v
+      within = bit_below 64 (get_or ws k 0) (s + t) small (sym (bit_shr (get_or ws k 0) s t) ∙ set_there)
+
+      pub first_bit : First ws 0 (64 * k + s) (64 * k + s + count_trailing_zeros 64 (get_or ws k 0 / 2 ^ s))
+      unfolding v t
+      first_bit =
+          let w : s + t < 64 = within in
+          record {
+            name = omega arith;
+            after = omega arith;
+            rest = row_skip ws 0 t (64 * k + s) (omega arith) (λ i l. in_word i (omega arith) ∙ zeros_below v n v_small i l);
+            there = in_word t w ∙ set_there;
+          }
 
 -- the first name behind names that the row does not have
 pub first_behind : {ws : List ℕ} {a i j r : ℕ} → i ≤ j → row_from ws a i ≡ row_from ws a j → First ws a j r → First ws a i r
@@ -130,18 +134,45 @@ first_behind h e n = record { name = n.name; after = le_trans h n.after; rest = 
 pub first_names : {ws : List ℕ} {a j b : ℕ} → First ws a j b → row_from ws a j ≡ b ∷ row_from ws a (b + 1)
 first_names {ws} {a} {j} {b} n = n.rest ∙ row_hit ws a b n.name n.there
 
+-- two tests that agree pass the same numbers
+passing_same : (p q : ℕ → Bool) (k j : ℕ) → ((b : ℕ) → j ≤ b → b < j + k → p b ≡ q b) → passing p k j ≡ passing q k j
+unfolding passing
+passing_same p q zero j h = refl
+passing_same p q (suc k) j h =
+    let rest : passing p k (j + 1) ≡ passing q k (j + 1) = passing_same p q k (j + 1) (λ b l u. h b (omega arith) (omega arith)) in
+    let first : p j ≡ q j = h j (le_refl j) (omega arith) in
+    ⊎_elim
+    (λ (e : q j ≡ true). passing_pass p k j (first ∙ e) ∙ ap (λ (l : List ℕ). j ∷ l) rest ∙ sym (passing_pass q k j e))
+    (λ (e : q j ≡ false). passing_miss p k j (first ∙ e) ∙ rest ∙ sym (passing_miss q k j e))
+    (split (q j))
+
 -- the iterator i is over row a of ws
 pub record Over (ws : List ℕ) (a : ℕ) (i : RowNames) : Type 0 where
-  pub words : i.words.now ≡ ws
-  pub row : i.row ≡ a
+  pub has : (b : ℕ) → b < 512 → has i.row.now 0 b ≡ has ws a b
+
+-- over the words of a set, or over those of a row of a graph
+pub over_set : {ws : List ℕ} {i : RowNames} → i.row.now ≡ ws → Over ws 0 i
+over_set e = record { has = λ b h. rw e refl }
+
+pub over_row : {ws : List ℕ} {a : ℕ} {i : RowNames} → a < 512 → length ws ≡ 4096 → i.row.now ≡ take 8 (drop (8 * a) ws) → Over ws a i
+unfolding has
+over_row {ws} {a} ha long e = record { has = λ b h. rw e (ap (λ (v : ℕ). bit v (b % 64)) (grind (arith, places))) }
 
 pub over_next : {ws : List ℕ} {a : ℕ} {i j : RowNames} {r : Option ℕ} → Over ws a i → Gives i r j → Over ws a j
-over_next o n = record { words = n.words ∙ o.words; row = n.row ∙ o.row }
+over_next {ws} {a} o n = record { has = rw n.row o.has }
 
--- what it gave is the row's first name from where it stood
-pub over_name : {ws : List ℕ} {a b : ℕ} {i j : RowNames} → Over ws a i → Gives i (Some b) j → First ws a i.from b
-over_name o n = rw o.row at (rw o.words at n.name)
+module _ {ws : List ℕ} {a : ℕ} {i : RowNames} (o : Over ws a i) where
+  -- what is left of its row is what is left of row a
+  over_rest : (j : ℕ) → row_from i.row.now 0 j ≡ row_from ws a j
+  unfolding row_from
+  over_rest j = passing_same (has i.row.now 0) (has ws a) (512 - j) j (λ b l u. o.has b (omega arith))
 
--- or there is none from there on
-pub over_end : {ws : List ℕ} {a : ℕ} {i j : RowNames} → Over ws a i → Gives i None j → row_from ws a i.from ≡ []
-over_end o n = rw o.row at (rw o.words at n.name)
+  -- what it gave is the row's first name from where it stood
+  pub over_name : {b : ℕ} {j : RowNames} → Gives i (Some b) j → First ws a i.from b
+  over_name {b} n =
+      let f : First i.row.now 0 i.from b = n.name in
+      record { name = f.name; after = f.after; rest = sym (over_rest i.from) ∙ f.rest ∙ over_rest b; there = sym (o.has b f.name) ∙ f.there }
+
+  -- or there is none from there on
+  pub over_end : {j : RowNames} → Gives i None j → row_from ws a i.from ≡ []
+  over_end n = sym (over_rest i.from) ∙ n.name

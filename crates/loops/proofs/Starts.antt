@@ -17,10 +17,10 @@ use Rattle.lustre.specs.Walk.{Search, found, clear, more, after, path_of, looks_
 use Rattle.demands.specs.Reading.{Each}
 use Rattle.loops.specs.declared.Colour.{Colour}
 use Rattle.loops.specs.declared.Colour.TheVariants.{Free, OnPath, Cleared}
-use Rattle.loops.specs.declared.Found.{Found}
+use Rattle.std.specs.declared.ops.Range.{Range}
 use Rattle.loops.specs.Rows.{row_from, row, First}
-use Rattle.loops.specs.Steps.{free, is_on, is_off, Colours, Ends, Alike, CanEnter, Enters, CanPlace, Places}
-use Rattle.loops.specs.Search.{Answers, CanSearch, Searches}
+use Rattle.loops.specs.Steps.{free, is_on, is_off, Colours, Ends, Alike, CanEnter, Enters, Places}
+use Rattle.loops.specs.Search.{Answers, Searches}
 use Rattle.loops.proofs.Rows.{first_names}
 use Rattle.demands.proofs.Clauses.{starts_going, more_none, more_more}
 use Rattle.loops.proofs.Steps.{free_le}
@@ -28,12 +28,12 @@ use Rattle.loops.proofs.Rename.{EachIn, renamed}
 use Rattle.loops.proofs.Texts.{searched_texts}
 
 -- The answer of a walk over numbers stands in the path.
-abbrev Shown : Search ℕ → List ℕ → Option Found → ℕ → Type 0
-Shown (found c n) path r looks = (f : Found) × (r ≡ Some f) × (drop f.start (take f.end path) ≡ c) × (looks ≡ n)
+abbrev Shown : Search ℕ → List ℕ → Option (Range ℕ) → ℕ → Type 0
+Shown (found c n) path r looks = (f : Range ℕ) × (r ≡ Some f) × (drop f.start (take f.end path) ≡ c) × (looks ≡ n)
 Shown (clear cl n) path r looks = (r ≡ None) × (looks ≡ n)
 
 -- so does that answer with the names for the numbers
-shown_as : {A : Type 0} (name : ℕ → A) (o : Search ℕ) (path : List ℕ) (r : Option Found) (looks : ℕ) → Shown o path r looks → Answers name (renamed name o) path r looks
+shown_as : {A : Type 0} (name : ℕ → A) (o : Search ℕ) (path : List ℕ) (r : Option (Range ℕ)) (looks : ℕ) → Shown o path r looks → Answers name (renamed name o) path r looks
 unfolding path_of looks_of
 shown_as name (found c n) path r looks s = record { loop = rw s.1 (ap (λ (l : List ℕ). some (map name l)) (sym s.2)); counted = s.3 }
 shown_as name (clear cl n) path r looks s = record { loop = rw s.0 refl; counted = s.1 }
@@ -47,10 +47,10 @@ each_at P [] i h b = absurd (omega arith)
 each_at P (x ∷ l) zero h b = h.0
 each_at P (x ∷ l) (suc i) h b = each_at P l i h.1 (omega arith)
 
-shown_known : (P : ℕ → Type 0) (o : Search ℕ) (path : List ℕ) (r : Option Found) (looks : ℕ) → Shown o path r looks → EachIn P o → IfSome r (λ f. f.end ≤ length path)
+shown_known : (P : ℕ → Type 0) (o : Search ℕ) (path : List ℕ) (r : Option (Range ℕ)) (looks : ℕ) → Shown o path r looks → EachIn P o → IfSome r (λ f. f.end ≤ length path)
     → IfSome r (λ f. (k : ℕ) → f.start ≤ k → k < f.end → P (get_or path k 0))
 shown_known P (found c n) path r looks s each within =
-    let f : Found = s.0 in
+    let f : Range ℕ = s.0 in
     let b : f.end ≤ length path = rw s.1 at within in
     let len : length (drop f.start (take f.end path)) ≡ f.end - f.start = length-drop f.start (take f.end path) ∙ ap (λ (z : ℕ). z - f.start) (length-take-le f.end path b) in
     rw s.1 (λ k low high.
@@ -61,7 +61,7 @@ shown_known P (found c n) path r looks s each within =
     (each_at P (drop f.start (take f.end path)) (k - f.start) (subst (Each P) (sym s.2) each) (omega arith)))
 shown_known P (clear cl n) path r looks s each within = rw s.0 tt
 
-searched : {graph defs path : List ℕ} {r : Option Found} {looks : ℕ} → IfSome r (λ f. f.end ≤ 513) → IfSome r (λ f. f.end ≤ length path) → IfSome r (λ f. f.start ≤ f.end) → looks ≤ 262144
+searched : {graph defs path : List ℕ} {r : Option (Range ℕ)} {looks : ℕ} → IfSome r (λ f. f.end ≤ 513) → IfSome r (λ f. f.end ≤ length path) → IfSome r (λ f. f.start ≤ f.end) → looks ≤ 262144
     → ((f : ℕ) → 512 ≤ f → Shown (walk eqb (row graph) f (row defs 0)) path r looks) → Searches graph defs path r looks
 searched {graph} {defs} {path} {r} {looks} fits within ordered bounded shown =
     let o : ℕ → Search ℕ = λ (f : ℕ). walk eqb (row graph) f (row defs 0) in
@@ -79,21 +79,19 @@ searched {graph} {defs} {path} {r} {looks} fits within ordered bounded shown =
     }
 
 -- What the loop over the names to start from keeps: those below v are done.
-pub record Searching (graph defs path₀ : List ℕ) (colour : List Colour) (path : List ℕ) (looks v : ℕ) : Type 0 where
+pub record Searching (graph defs : List ℕ) (colour : List Colour) (path : List ℕ) (looks v : ℕ) : Type 0 where
   pub wide : length colour ≡ 512
-  pub long : length path ≡ length path₀
   pub bounded : looks + 512 * free colour ≤ 262144
   pub right : (f : ℕ) → 512 ≤ f
       → (cl : List ℕ) × Colours colour [] cl × (walk eqb (row graph) f (row defs 0) ≡ more looks (starts eqb (enter eqb (row graph) f) (row_from defs 0 v) cl))
 
-pub searching_start : {graph defs path : List ℕ} → Searching graph defs path (replicate 512 Free) path 0 0
+pub searching_start : {graph defs path : List ℕ} → Searching graph defs (replicate 512 Free) path 0 0
 unfolding walk mem
 searching_start {graph} {defs} {path} =
     let none : List Colour = replicate 512 Free in
     let len : length none ≡ 512 = length-replicate {A = Colour} 512 Free in
     record {
       wide = len;
-      long = refl;
       bounded = omega (arith, free_le none);
       right = λ f h. (
         [],
@@ -102,7 +100,7 @@ searching_start {graph} {defs} {path} =
       );
     }
 
-module _ {graph defs path₀ : List ℕ} {colour : List Colour} {path : List ℕ} {looks v : ℕ} (l : Searching graph defs path₀ colour path looks v) where
+module _ {graph defs : List ℕ} {colour : List Colour} {path : List ℕ} {looks v : ℕ} (l : Searching graph defs colour path looks v) where
   -- no name is left to start from
   pub searched_none : row_from defs 0 v ≡ [] → Searches graph defs path None looks
   unfolding starts more
@@ -135,12 +133,11 @@ module _ {graph defs path₀ : List ℕ} {colour : List Colour} {path : List ℕ
     passed Cleared h k = refl
 
     -- it is cleared already
-    pub searching_skip : (get_or colour b Free ≡ Free → ⊥) → Searching graph defs path₀ colour path looks (b + 1)
+    pub searching_skip : (get_or colour b Free ≡ Free → ⊥) → Searching graph defs colour path looks (b + 1)
     unfolding mem
     searching_skip e =
         record {
           wide = l.wide;
-          long = l.long;
           bounded = l.bounded;
           right = λ f h.
               let r = l.right f h in
@@ -148,15 +145,12 @@ module _ {graph defs path₀ : List ℕ} {colour : List Colour} {path : List ℕ
         }
 
     module _ (e : get_or colour b Free ≡ Free) where
-      pub can_start : CanSearch graph path₀ → CanEnter graph colour path 0 b
-      can_start can = record { rows = can.rows; wide = l.wide; long = omega (arith, can.long, l.long); name = n.name; room = omega (arith, free_le colour, l.wide); new = e }
+      pub can_start : CanEnter colour 0 b
+      can_start = record { name = n.name; room = omega (arith, free_le colour, l.wide); new = e }
 
       module _ {colour' : List Colour} {path' : List ℕ} {end : Option ℕ} {k : ℕ} (h : Enters graph colour path 0 b colour' path' end k) where
         pub bound_here : looks + k + 512 * free colour' ≤ 262144
         bound_here = omega (arith, l.bounded, h.bounded)
-
-        pub long_here : length path' ≡ length path₀
-        long_here = h.long ∙ l.long
 
         -- the definition enters it too
         entered : (f : ℕ) (m : 512 ≤ f)
@@ -175,12 +169,11 @@ module _ {graph defs path₀ : List ℕ} {colour : List Colour} {path : List ℕ
             )
 
         -- and clears it
-        pub searching_clear : end ≡ None → Searching graph defs path₀ colour' path' (looks + k) (b + 1)
+        pub searching_clear : length colour' ≡ 512 → end ≡ None → Searching graph defs colour' path' (looks + k) (b + 1)
         unfolding after
-        searching_clear z =
+        searching_clear wide z =
             record {
-              wide = h.wide;
-              long = long_here;
+              wide = wide;
               bounded = bound_here;
               right = λ f m. let r = entered f m in cleared f (enter eqb (row graph) f [] b (l.right f m).0) r.0 r.1;
             }
@@ -205,17 +198,16 @@ module _ {graph defs path₀ : List ℕ} {colour : List Colour} {path : List ℕ
               looped (found c y) a q = (c, q ∙ ap (λ (x : ℕ). found c (looks + x)) a.counted, subst (λ (x : ℕ). Ends path' x c) (same_Some a.at at (sym a.is ∙ z)) a.there)
               looped (clear cl y) a q = absurd (true≢false (ap is_some (sym z ∙ a.nothing)))
 
-          module _ (long : 513 ≤ length path₀) where
-            pub can_place : CanPlace path' at
-            can_place = let r = found_loop 512 (le_refl 512) in record { some = r.2.some; within = omega (arith, r.2.fits, long_here, long) }
+          pub can_place : (1 ≤ at) × (at ≤ 513)
+          can_place = let r = found_loop 512 (le_refl 512) in (r.2.some, r.2.fits)
 
-            pub searched_loop : {start : ℕ} → Places path' at start → Searches graph defs path' (Some (record { start = start; end = at })) (looks + k)
-            searched_loop {start} p =
-                searched
-                (found_loop 512 (le_refl 512)).2.fits
-                can_place.within
-                (omega (arith, p.before))
-                (omega (arith, bound_here))
-                (λ f m.
-                let r = found_loop f m in
-                subst (λ (o : Search ℕ). Shown o path' (Some (record { start = start; end = at })) (looks + k)) (sym r.1) (record { start = start; end = at }, refl, p.loop ∙ sym r.2.loop, refl))
+          pub searched_loop : {start : ℕ} → length path' ≡ 513 → Places path' at start → Searches graph defs path' (Some (record { start = start; end = at })) (looks + k)
+          searched_loop {start} long p =
+              searched
+              can_place.1
+              (omega (arith, can_place.1, long))
+              (omega (arith, p.before))
+              (omega (arith, bound_here))
+              (λ f m.
+              let r = found_loop f m in
+              subst (λ (o : Search ℕ). Shown o path' (Some (record { start = start; end = at })) (looks + k)) (sym r.1) (record { start = start; end = at }, refl, p.loop ∙ sym r.2.loop, refl))

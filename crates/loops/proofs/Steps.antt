@@ -120,15 +120,13 @@ from_snoc s (y ∷ ys) i =
 
 -- What a part of the search behind a path of depth + 1 names does: from a state with the successors `todo` to look at, to one with `todo'`.
 pub record Goes (g : List ℕ) (depth : ℕ) (colour : List Colour) (path : List ℕ) (looks : ℕ) (todo : List ℕ) (colour' : List Colour) (path' : List ℕ) (looks' : ℕ) (todo' : List ℕ) : Type 0 where
-  pub wide : length colour' ≡ 512
-  pub long : length path' ≡ length path
   pub fewer : free colour' ≤ free colour
   pub right : (P cl : List ℕ) (f : ℕ) → take (depth + 1) path ≡ P → Colours colour P cl → free colour ≤ f
       → (cl' : List ℕ) × (take (depth + 1) path' ≡ P) × Colours colour' P cl' × (more looks (scan eqb (enter eqb (row g) f) P todo cl) ≡ more looks' (scan eqb (enter eqb (row g) f) P todo' cl'))
 
 module _ {g : List ℕ} {depth : ℕ} where
-  goes_none : (colour : List Colour) (path : List ℕ) (looks : ℕ) (todo : List ℕ) → length colour ≡ 512 → Goes g depth colour path looks todo colour path looks todo
-  goes_none colour path looks todo w = record { wide = w; long = refl; fewer = le_refl (free colour); right = λ P cl f p s b. (cl, p, s, refl) }
+  goes_none : (colour : List Colour) (path : List ℕ) (looks : ℕ) (todo : List ℕ) → Goes g depth colour path looks todo colour path looks todo
+  goes_none colour path looks todo = record { fewer = le_refl (free colour); right = λ P cl f p s b. (cl, p, s, refl) }
 
   -- another way to write what is left
   goes_as : {colour : List Colour} {path : List ℕ} {looks : ℕ} {todo : List ℕ} {colour' : List Colour} {path' : List ℕ} {looks' : ℕ} {todo₁ todo₂ : List ℕ} → todo₁ ≡ todo₂
@@ -140,8 +138,6 @@ module _ {g : List ℕ} {depth : ℕ} where
       → Goes g depth colour path looks todo colour₂ path₂ looks₂ todo₂
   goes_on h k =
       record {
-        wide = k.wide;
-        long = k.long ∙ h.long;
         fewer = omega (arith, h.fewer, k.fewer);
         right = λ P cl f p s b.
             let r = h.right P cl f p s b in
@@ -149,13 +145,11 @@ module _ {g : List ℕ} {depth : ℕ} where
             (q.0, q.1, q.2, r.3 ∙ q.3);
       }
 
-  module _ {colour : List Colour} {path : List ℕ} (looks : ℕ) {s : ℕ} (rest : List ℕ) (wide : length colour ≡ 512) (b : s < 512) where
+  module _ {colour : List Colour} {path : List ℕ} (looks : ℕ) {s : ℕ} (rest : List ℕ) (b : s < 512) where
     -- a cleared successor is passed over
     goes_skip : get_or colour s Free ≡ Cleared → Goes g depth colour path looks (s ∷ rest) colour path (looks + 1) rest
     goes_skip e =
         record {
-          wide = wide;
-          long = refl;
           fewer = le_refl (free colour);
           right = λ P cl f p h q. (
             cl,
@@ -173,8 +167,6 @@ module _ {g : List ℕ} {depth : ℕ} where
     unfolding after
     goes_clear {colour'} {path'} {end} {n} room e h z =
         record {
-          wide = h.wide;
-          long = h.long;
           fewer = h.fewer;
           right = λ P cl f p i q.
               let alike : Alike (enter eqb (row g) f P s cl) P s colour' path' end n = subst (λ (l : List ℕ). Alike (enter eqb (row g) f l s cl) l s colour' path' end n) p (h.right cl f (subst (λ (l : List ℕ). Colours colour l cl) (sym p) i) q) in
@@ -197,12 +189,14 @@ module _ {g : List ℕ} {depth : ℕ} where
 
 -- What the loop of `enter` keeps: the successors below s are done.
 pub record Looking (g : List ℕ) (depth node : ℕ) (colour₀ : List Colour) (path₀ : List ℕ) (looks₀ : ℕ) (colour : List Colour) (path : List ℕ) (looks s : ℕ) : Type 0 where
+  pub wide : length colour ≡ 512
+  pub long : length path ≡ 513
   pub upto : s ≤ 512
   pub goes : Goes g depth colour₀ path₀ looks₀ (row g node) colour path looks (row_from g node s)
   pub bounded : looks + 512 * free colour ≤ looks₀ + 512 * free colour₀ + s
 
-pub looking_start : {g : List ℕ} {depth node : ℕ} {colour : List Colour} {path : List ℕ} {looks : ℕ} → length colour ≡ 512 → Looking g depth node colour path looks colour path looks 0
-looking_start {g} {node = node} {colour} {path} {looks} w = record { upto = zero-le; goes = goes_none colour path looks (row g node) w; bounded = omega arith }
+looking_start : {g : List ℕ} {depth node : ℕ} {colour : List Colour} {path : List ℕ} {looks : ℕ} → length colour ≡ 512 → length path ≡ 513 → Looking g depth node colour path looks colour path looks 0
+looking_start {g} {node = node} {colour} {path} {looks} w p = record { wide = w; long = p; upto = zero-le; goes = goes_none colour path looks (row g node); bounded = omega arith }
 
 module _ {g : List ℕ} {depth node : ℕ} {colour₀ : List Colour} {path₀ : List ℕ} {looks₀ : ℕ} {colour : List Colour} {path : List ℕ} {looks s b : ℕ}
     (l : Looking g depth node colour₀ path₀ looks₀ colour path looks s) (n : First g node s b) where
@@ -210,40 +204,50 @@ module _ {g : List ℕ} {depth node : ℕ} {colour₀ : List Colour} {path₀ : 
   at_hand : Goes g depth colour₀ path₀ looks₀ (row g node) colour path looks (b ∷ row_from g node (b + 1))
   at_hand = goes_as (first_names n) l.goes
 
-  going_on : {colour' : List Colour} {path' : List ℕ} {looks' : ℕ} → Goes g depth colour path looks (b ∷ row_from g node (b + 1)) colour' path' looks' (row_from g node (b + 1))
+  going_on : {colour' : List Colour} {path' : List ℕ} {looks' : ℕ} → length colour' ≡ 512 → length path' ≡ 513
+      → Goes g depth colour path looks (b ∷ row_from g node (b + 1)) colour' path' looks' (row_from g node (b + 1))
       → looks' + 512 * free colour' ≤ looks + 1 + 512 * free colour → Looking g depth node colour₀ path₀ looks₀ colour' path' looks' (b + 1)
-  going_on h k = record { upto = omega (arith, n.name); goes = goes_on at_hand h; bounded = omega (arith, l.bounded, n.after, k) }
+  going_on w p h k = record { wide = w; long = p; upto = omega (arith, n.name); goes = goes_on at_hand h; bounded = omega (arith, l.bounded, n.after, k) }
 
   pub looking_skip : get_or colour b Free ≡ Cleared → Looking g depth node colour₀ path₀ looks₀ colour path (looks + 1) (b + 1)
-  looking_skip e = going_on (goes_skip looks (row_from g node (b + 1)) l.goes.wide n.name e) (omega arith)
+  looking_skip e = going_on l.wide l.long (goes_skip looks (row_from g node (b + 1)) n.name e) (omega arith)
 
-  pub looking_clear : {colour' : List Colour} {path' : List ℕ} {end : Option ℕ} {k : ℕ} → depth + 1 ≤ length path → get_or colour b Free ≡ Free
+  pub looking_clear : {colour' : List Colour} {path' : List ℕ} {end : Option ℕ} {k : ℕ} → depth < 512 → get_or colour b Free ≡ Free → length colour' ≡ 512 → length path' ≡ 513
       → Enters g colour path (depth + 1) b colour' path' end k → is_some end ≡ false → Looking g depth node colour₀ path₀ looks₀ colour' path' (looks + 1 + k) (b + 1)
-  looking_clear room e h z = going_on (goes_clear looks (row_from g node (b + 1)) l.goes.wide n.name room e h z) (omega (arith, h.bounded))
+  looking_clear room e w p h z = going_on w p (goes_clear looks (row_from g node (b + 1)) n.name (omega (arith, room, l.long)) e h z) (omega (arith, h.bounded))
+
+-- what a call of `enter` asks, and what the types of its arguments say
+pub record Entering (colour : List Colour) (path : List ℕ) (depth node : ℕ) : Type 0 where
+  pub asked : CanEnter colour depth node
+  pub wide : length colour ≡ 512
+  pub long : length path ≡ 513
+
+pub entering : {colour : List Colour} {path : List ℕ} {depth node : ℕ} → CanEnter colour depth node → length colour ≡ 512 → length path ≡ 513 → Entering colour path depth node
+entering a w l = record { asked = a; wide = w; long = l }
 
 -- From the call of `enter` on.
-module _ {g : List ℕ} {colour : List Colour} {path : List ℕ} {depth node : ℕ} (can : CanEnter g colour path depth node) where
+module _ {colour : List Colour} {path : List ℕ} {depth node : ℕ} (can : Entering colour path depth node) where
   marked : suc (free (set colour node OnPath)) ≡ free colour
   unfolding weight
-  marked = free_mark colour node OnPath (omega (arith, can.name, can.wide)) can.new refl
+  marked = free_mark colour node OnPath (omega (arith, can.asked.name, can.wide)) can.asked.new refl
 
   pub room : depth < 512
-  room = omega (arith, can.room, marked)
+  room = omega (arith, can.asked.room, marked)
 
   front_length : length (take depth path) ≡ depth
   front_length = length-take-le depth path (omega (arith, room, can.long))
 
-  pub start_wide : length (set colour node OnPath) ≡ 512
-  start_wide = length-set colour node OnPath ∙ can.wide
+  pub looking_from : {g : List ℕ} → Looking g depth node (set colour node OnPath) (set path depth node) 0 (set colour node OnPath) (set path depth node) 0 0
+  looking_from = looking_start (length-set colour node OnPath ∙ can.wide) (length-set path depth node ∙ can.long)
 
   -- the definition's fuel is one more than some number, since `node` is free
-  fuelled : (colour' : List Colour) (path' : List ℕ) (end : Option ℕ) (looks : ℕ)
+  fuelled : (g : List ℕ) (colour' : List Colour) (path' : List ℕ) (end : Option ℕ) (looks : ℕ)
       → ((cl : List ℕ) (f : ℕ) → Colours colour (take depth path) cl → free colour ≤ suc f → Alike (enter eqb (row g) (suc f) (take depth path) node cl) (take depth path) node colour' path' end looks)
       → (cl : List ℕ) (f : ℕ) → Colours colour (take depth path) cl → free colour ≤ f → Alike (enter eqb (row g) f (take depth path) node cl) (take depth path) node colour' path' end looks
-  fuelled colour' path' end looks each cl zero h b = absurd (omega (arith, b, marked))
-  fuelled colour' path' end looks each cl (suc f) h b = each cl f h b
+  fuelled g colour' path' end looks each cl zero h b = absurd (omega (arith, b, marked))
+  fuelled g colour' path' end looks each cl (suc f) h b = each cl f h b
 
-  module _ {colour₁ : List Colour} {path₁ : List ℕ} {looks₁ : ℕ} {todo₁ : List ℕ} (goes : Goes g depth (set colour node OnPath) (set path depth node) 0 (row g node) colour₁ path₁ looks₁ todo₁) where
+  module _ {g : List ℕ} {colour₁ : List Colour} {path₁ : List ℕ} {looks₁ : ℕ} {todo₁ : List ℕ} (goes : Goes g depth (set colour node OnPath) (set path depth node) 0 (row g node) colour₁ path₁ looks₁ todo₁) where
     -- what the definition has come to
     so_far : (cl : List ℕ) (f : ℕ) → Colours colour (take depth path) cl → free colour ≤ suc f
         → (cl' : List ℕ) × (take (depth + 1) path₁ ≡ take depth path ++ (node ∷ [])) × Colours colour₁ (take depth path ++ (node ∷ [])) cl'
@@ -257,24 +261,20 @@ module _ {g : List ℕ} {colour : List Colour} {path : List ℕ} {depth node : �
         cl
         f
         (ap (λ (k : ℕ). take k (set path depth node)) (add-one depth) ∙ take-suc-set path depth node (omega (arith, room, can.long)))
-        (colours_mark colour node can.wide can.name (take depth path) cl can.new h)
+        (colours_mark colour node can.wide can.asked.name (take depth path) cl can.asked.new h)
         (omega (arith, marked, b)) in
         (r.0, r.1, r.2, sym (more_none (scan eqb (enter eqb (row g) f) P (row g node) cl)) ∙ r.3)
 
-    long_still : length path₁ ≡ length path
-    long_still = goes.long ∙ length-set path depth node
-
     -- all successors are looked at, and none closed a loop
-    enters_clear : todo₁ ≡ [] → looks₁ + 512 * free colour₁ ≤ 512 * free colour → Enters g colour path depth node (set colour₁ node Cleared) path₁ None looks₁
+    enters_clear : length colour₁ ≡ 512 → todo₁ ≡ [] → looks₁ + 512 * free colour₁ ≤ 512 * free colour → Enters g colour path depth node (set colour₁ node Cleared) path₁ None looks₁
     unfolding scan more weight
-    enters_clear none bound =
+    enters_clear wide none bound =
         let fewer : free (set colour₁ node Cleared) ≤ free colour₁ = free_set colour₁ node Cleared refl in
         record {
-          wide = length-set colour₁ node Cleared ∙ goes.wide;
-          long = long_still;
           fewer = omega (arith, goes.fewer, marked);
           bounded = omega arith;
           right = fuelled
+              g
               (set colour₁ node Cleared)
               path₁
               None
@@ -293,24 +293,23 @@ module _ {g : List ℕ} {colour : List Colour} {path : List ℕ} {depth node : �
                     ∙ sym (take-take depth (depth + 1) path₁ (omega arith))
                     ∙ ap (take depth) r.1
                     ∙ take_at (take depth path) (node ∷ []) depth front_length;
-                colours = colours_clear colour₁ node goes.wide can.name (take depth path) r.0 (h.on node can.name ∙ ap is_on can.new) r.2;
+                colours = colours_clear colour₁ node wide can.asked.name (take depth path) r.0 (h.on node can.asked.name ∙ ap is_on can.asked.new) r.2;
               }));
         }
 
     module _ {s : ℕ} {rest : List ℕ} (todo : todo₁ ≡ s ∷ rest) (b : s < 512) (bound : looks₁ + 1 + 512 * free colour₁ ≤ 512 * free colour) where
       -- a look at a name on the path
-      enters_loop : get_or colour₁ s Free ≡ OnPath → Enters g colour path depth node colour₁ (set path₁ (depth + 1) s) (Some (depth + 2)) (looks₁ + 1)
+      enters_loop : length path₁ ≡ 513 → get_or colour₁ s Free ≡ OnPath → Enters g colour path depth node colour₁ (set path₁ (depth + 1) s) (Some (depth + 2)) (looks₁ + 1)
       unfolding more
-      enters_loop e =
-          let deep : depth + 1 < length path₁ = omega (arith, room, long_still, can.long) in
+      enters_loop long e =
+          let deep : depth + 1 < length path₁ = omega (arith, room, long) in
           let last : depth + 2 - 1 ≡ depth + 1 = omega arith in
           let next : depth + 2 ≡ suc (depth + 1) = omega arith in
           record {
-            wide = goes.wide;
-            long = length-set path₁ (depth + 1) s ∙ long_still;
             fewer = omega (arith, goes.fewer, marked);
             bounded = bound;
             right = fuelled
+                g
                 colour₁
                 (set path₁ (depth + 1) s)
                 (Some (depth + 2))
@@ -346,11 +345,10 @@ module _ {g : List ℕ} {colour : List Colour} {path : List ℕ} {depth node : �
       unfolding after more
       enters_deeper {colour₂} {path₂} {end} {n} e k z =
           record {
-            wide = k.wide;
-            long = k.long ∙ long_still;
             fewer = omega (arith, goes.fewer, marked, k.fewer);
             bounded = omega (arith, bound, k.bounded);
             right = fuelled
+                g
                 colour₂
                 path₂
                 end
@@ -377,25 +375,22 @@ module _ {g : List ℕ} {colour : List Colour} {path : List ℕ} {depth node : �
           passed (clear c m) P go a = absurd (true≢false (sym z ∙ ap is_some a.nothing))
 
   -- At the loop's test, and in its body.
-  module _ {colour₁ : List Colour} {path₁ : List ℕ} {looks₁ s : ℕ} (l : Looking g depth node (set colour node OnPath) (set path depth node) 0 colour₁ path₁ looks₁ s) where
+  module _ {g : List ℕ} {colour₁ : List Colour} {path₁ : List ℕ} {looks₁ s : ℕ} (l : Looking g depth node (set colour node OnPath) (set path depth node) 0 colour₁ path₁ looks₁ s) where
     pub entered_clear : row_from g node s ≡ [] → Enters g colour path depth node (set colour₁ node Cleared) path₁ None looks₁
-    entered_clear h = enters_clear l.goes h (omega (arith, l.bounded, l.upto, marked))
-
-    pub long_here : 513 ≤ length path₁
-    long_here = omega (arith, long_still l.goes, can.long)
+    entered_clear h = enters_clear l.goes l.wide h (omega (arith, l.bounded, l.upto, marked))
 
     module _ {b : ℕ} (n : First g node s b) where
       pub bound_here : looks₁ + 1 + 512 * free colour₁ ≤ 512 * free colour
       bound_here = omega (arith, l.bounded, marked, n.name, n.after)
 
       pub fits_here : looks₁ + 1 + 512 * free colour₁ ≤ 262144
-      fits_here = omega (arith, bound_here, can.room)
+      fits_here = omega (arith, bound_here, can.asked.room)
 
-      pub can_deeper : get_or colour₁ b Free ≡ Free → CanEnter g colour₁ path₁ (depth + 1) b
-      can_deeper e = record { rows = can.rows; wide = l.goes.wide; long = long_here; name = n.name; room = omega (arith, l.goes.fewer, marked, can.room); new = e }
+      pub can_deeper : get_or colour₁ b Free ≡ Free → CanEnter colour₁ (depth + 1) b
+      can_deeper e = record { name = n.name; room = omega (arith, l.goes.fewer, marked, can.asked.room); new = e }
 
       pub entered_loop : get_or colour₁ b Free ≡ OnPath → Enters g colour path depth node colour₁ (set path₁ (depth + 1) b) (Some (depth + 2)) (looks₁ + 1)
-      entered_loop = enters_loop (at_hand l n) refl n.name bound_here
+      entered_loop = enters_loop (at_hand l n) refl n.name bound_here l.long
 
       pub entered_deeper : {colour₂ : List Colour} {path₂ : List ℕ} {end : Option ℕ} {k : ℕ} → get_or colour₁ b Free ≡ Free
           → Enters g colour₁ path₁ (depth + 1) b colour₂ path₂ end k → is_some end ≡ true → Enters g colour path depth node colour₂ path₂ end (looks₁ + 1 + k)

@@ -39,9 +39,8 @@ Next ws a j (Some b) = First ws a j b
 
 -- a call of the iterator s over the names of a row gave r and left t
 pub record Gives (s : RowNames) (r : Option ℕ) (t : RowNames) : Type 0 where
-  pub words : t.words.now ≡ s.words.now
-  pub row : t.row ≡ s.row
-  pub name : Next s.words.now s.row s.from r
+  pub row : t.row.now ≡ s.row.now
+  pub name : Next s.row.now 0 s.from r
   pub from : IfSome r (λ b. t.from ≡ b + 1)
 
 -- ws' is ws with b in row a

@@ -1,14 +1,14 @@
 -- What the contract of `search` says: what it answers, in the numbers of names and in their texts.
 -- Assumes nothing: these are definitions.
 use Prim.Native.Nat.{Ordering}
-use Rattle.std.specs.Prelude.{ℕ, ◌≤◌, ◌<◌, ◌≡◌, true, List, map, length, get_or, take, drop, eqb, Option, MatchOption, IfSome}
+use Rattle.std.specs.Prelude.{ℕ, ◌≤◌, ◌<◌, ◌≡◌, true, List, map, get_or, take, drop, eqb, Option, MatchOption, IfSome}
 use Rattle.std.proofs.Math.Option.{none, some}
 use Rattle.lustre.specs.Name.{Name, order, ◌among◌}
 use Rattle.lustre.specs.Project.{Equation}
 use Rattle.lustre.specs.Deps.{defined, read_by}
 use Rattle.lustre.specs.Walk.{Search, path_of, looks_of, walk, graph_names, search}
 use Rattle.loops.specs.Rows.{has, row}
-use Rattle.loops.specs.declared.Found.{Found}
+use Rattle.std.specs.declared.ops.Range.{Range}
 
 -- the words show the equations, where `text` gives the texts of the name numbers below `names`: those go by byte order, so that no two
 -- have one text
@@ -25,17 +25,12 @@ pub record Shows (qs : List Equation) (text : ℕ → Name) (names : ℕ) (graph
   pub starts_within : (a : ℕ) → a < 512 → has defs 0 a ≡ true → a < names
 
 -- what a search answers stands in the path, where `name` says which name a number is: the loop that was found, or none
-pub record Answers {A : Type 0} (name : ℕ → A) (o : Search A) (path : List ℕ) (r : Option Found) (looks : ℕ) : Type 0 where
+pub record Answers {A : Type 0} (name : ℕ → A) (o : Search A) (path : List ℕ) (r : Option (Range ℕ)) (looks : ℕ) : Type 0 where
   pub loop : MatchOption r (path_of o ≡ none) (λ f. path_of o ≡ some (map name (drop f.start (take f.end path))))
   pub counted : looks ≡ looks_of o
 
--- what `search` asks
-pub record CanSearch (graph path : List ℕ) : Type 0 where
-  pub rows : 4096 ≤ length graph
-  pub long : 513 ≤ length path
-
 -- what `search` leaves in the path and gives; what the path holds outside the loop is left free
-pub record Searches (graph defs path : List ℕ) (r : Option Found) (looks : ℕ) : Type 0 where
+pub record Searches (graph defs path : List ℕ) (r : Option (Range ℕ)) (looks : ℕ) : Type 0 where
   pub fits : IfSome r (λ f. f.end ≤ 513)
   pub ordered : IfSome r (λ f. f.start ≤ f.end)
   pub bounded : looks ≤ 262144

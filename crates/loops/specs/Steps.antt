@@ -56,27 +56,17 @@ Alike (found c n) front node colour path end looks = FoundAs c n path end looks
 Alike (clear cl n) front node colour path end looks = ClearAs cl n front node colour path end looks
 
 -- what `enter` asks: `node` is free, and the path has room for all that are
-pub record CanEnter (graph : List ℕ) (colour : List Colour) (path : List ℕ) (depth node : ℕ) : Type 0 where
-  pub rows : 4096 ≤ length graph
-  pub wide : length colour ≡ 512
-  pub long : 513 ≤ length path
+pub record CanEnter (colour : List Colour) (depth node : ℕ) : Type 0 where
   pub name : node < 512
   pub room : depth + free colour ≤ 512
   pub new : get_or colour node Free ≡ Free
 
 -- what `enter` does: as the definition's `enter` with any fuel that is enough, and at most 512 looks from each name that it takes
 pub record Enters (graph : List ℕ) (colour : List Colour) (path : List ℕ) (depth node : ℕ) (colour' : List Colour) (path' : List ℕ) (end : Option ℕ) (looks : ℕ) : Type 0 where
-  pub wide : length colour' ≡ 512
-  pub long : length path' ≡ length path
   pub fewer : free colour' ≤ free colour
   pub bounded : looks + 512 * free colour' ≤ 512 * free colour
   pub right : (cl : List ℕ) (f : ℕ) → Colours colour (take depth path) cl → free colour ≤ f
       → Alike (enter eqb (row graph) f (take depth path) node cl) (take depth path) node colour' path' end looks
-
--- what `first` asks
-pub record CanPlace (path : List ℕ) (end : ℕ) : Type 0 where
-  pub some : 1 ≤ end
-  pub within : end ≤ length path
 
 -- the loop that the path ends with starts at `start`
 pub record Places (path : List ℕ) (end start : ℕ) : Type 0 where

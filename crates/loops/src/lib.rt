@@ -5,14 +5,22 @@
 // are searched is not decided here.
 #![tactic(auto)]
 
-ghost use Rattle.std.specs.Prelude.{ℕ, ◌+◌, ◌*◌, ◌-◌, ◌≤◌, ◌<◌, ◌≡◌, false, not, length};
+ghost use Rattle.std.specs.Prelude.{ℕ, ◌+◌, ◌*◌, ◌-◌, ◌≤◌, ◌<◌, ◌≡◌, false, not, take, drop};
 ghost use Rattle.std.specs.Iterator.{at_most};
 ghost use Rattle.loops.specs.Rows.{has, Next, Gives, Connected, Joined, Emptied, Cleared};
-ghost use Rattle.loops.specs.Steps.{CanEnter, Enters, CanPlace, Places};
-ghost use Rattle.loops.specs.Search.{CanSearch, Searches};
+ghost use Rattle.loops.specs.Steps.{CanEnter, Enters, Places};
+ghost use Rattle.loops.specs.Search.{Searches};
 
-// How many names there are at most.
-pub const NAMES: usize = 512;
+use lustre::{NAMES, NameId};
+use std::ops::Range;
+
+// The words of a graph: eight for each name.
+// Kept: a graph is no array of `NameSet`s, since it lies in the work memory, which C lends as words.
+pub const GRAPH: usize = 8 * NAMES;
+
+// The words of a path: a loop is closed by its first name.
+// Kept: a path is an array with a depth beside it, and no `ArrayVec`, since a search that comes back does not take its names off.
+pub const PATH: usize = NAMES + 1;
 
 // A set of names by number, one bit a name.
 #[derive(Clone, Copy)]
@@ -29,40 +37,37 @@ impl NameSet {
     }
 
     // Whether the set has a name.
-    pub fn contains(&self, name: u64) -> bool
-        requires { name < 512 }
-        ensures { result ≡ has self.now.bits 0 name }
+    pub fn contains(&self, name: NameId) -> bool
+        ensures { result ≡ has self.now.bits 0 name.number }
     {
-        let i = (name / 64) as usize;
-        (self.bits[i] >> (name % 64)) % 2 == 1
+        let i = (name.number / 64) as usize;
+        (self.bits[i] >> (name.number % 64)) % 2 == 1
     }
 
     // Adds a name, and says whether it is new.
-    pub fn insert(&mut self, name: u64) -> bool
-        requires { name < 512 }
-        ensures added { Connected self.old.bits 0 name self.new.bits }
-        ensures fresh { result ≡ not (has self.old.bits 0 name) }
+    pub fn insert(&mut self, name: NameId) -> bool
+        ensures added { Connected self.old.bits 0 name.number self.new.bits }
+        ensures fresh { result ≡ not (has self.old.bits 0 name.number) }
     {
         let fresh = !self.contains(name);
-        let i = (name / 64) as usize;
-        self.bits[i] |= 1u64 << (name % 64);
+        let i = (name.number / 64) as usize;
+        self.bits[i] |= 1u64 << (name.number % 64);
         fresh
     }
 }
 
-// The first name of row `a` from `from` on.
-fn next(words: &[u64], a: usize, from: usize) -> Option<usize>
-    requires { (8 * a + 8 ≤ length words.now) × (from ≤ 512) }
-    ensures { Next words.now a from result }
+// The first name of a row from `from` on.
+fn next(row: &[u64; 8], from: usize) -> Option<usize>
+    requires { from ≤ 512 }
+    ensures { Next row.now 0 from result }
 {
-    // Kept: a step goes to the next word, so that no `for` counts it.
-    let mut b = from;
-    while b < NAMES {
-        let rest = words[8 * a + b / 64] >> (b % 64);
+    let mut skip = from % 64;
+    for k in from / 64..8 {
+        let rest = row[k] >> skip;
         if rest != 0 {
-            return Some(b + rest.trailing_zeros() as usize);
+            return Some(64 * k + skip + rest.trailing_zeros() as usize);
         }
-        b = b - b % 64 + 64;
+        skip = 0;
     }
     None
 }
@@ -70,43 +75,44 @@ fn next(words: &[u64], a: usize, from: usize) -> Option<usize>
 // The names of a row from a name on, in order.
 #[derive(Drop)]
 struct RowNames<'a> {
-    words: &'a [u64],
-    row: usize,
+    row: &'a [u64; 8],
     from: usize,
 }
 
 impl<'a> Iterator for RowNames<'a> {
     type Item = usize;
 
-    ghost can_next = { λ s. (8 * s.row + 8 ≤ length s.words.now) × (s.from ≤ 512) };
+    ghost can_next = { λ s. s.from ≤ 512 };
 
     ghost next_gives = { Gives };
 
     ghost remaining = { λ s. at_most (512 - s.from) };
 
     fn next(&mut self) -> Option<usize> {
-        let name = next(self.words, self.row, self.from)?;
+        let name = next(self.row, self.from)?;
         self.from = name + 1;
         Some(name)
     }
 }
 
-// The names that `a` has an edge to; and, where the words are one set and `a` is 0, the names of the set.
-fn names<'a>(words: &'a [u64], a: usize) -> RowNames<'a>
-    requires { 8 * a + 8 ≤ length words.now }
-    ensures { (result.words.now ≡ words.now) × (result.row ≡ a) × (result.from ≡ 0) }
+// The names of a row, in order.
+fn names<'a>(row: &'a [u64; 8]) -> RowNames<'a>
+    ensures { (result.row.now ≡ row.now) × (result.from ≡ 0) }
 {
-    RowNames {
-        words,
-        row: a,
-        from: 0,
-    }
+    RowNames { row, from: 0 }
+}
+
+// The row of a name.
+fn row_of(graph: &[u64; GRAPH], a: usize) -> &[u64; 8]
+    requires { a < 512 }
+    ensures { result.now ≡ take 8 (drop (8 * a) graph.now) }
+{
+    graph[8 * a..].first_chunk().unwrap()
 }
 
 // Adds an edge from `a` to each name of the set `row`, a word at a time.
-// Kept: a graph is a slice of words and no struct, since C lends the work memory that it lies in.
-pub fn join_row(graph: &mut [u64], a: usize, row: &NameSet)
-    requires { 8 * a + 8 ≤ length graph.old }
+pub fn join_row(graph: &mut [u64; GRAPH], a: usize, row: &NameSet)
+    requires { a < 512 }
     ensures { Joined graph.old a row.now.bits graph.new }
 {
     for k in 0..8 {
@@ -115,19 +121,18 @@ pub fn join_row(graph: &mut [u64], a: usize, row: &NameSet)
 }
 
 // Takes all edges from `a` away.
-fn clear_row(graph: &mut [u64], a: usize)
-    requires { 8 * a + 8 ≤ length graph.old }
+fn clear_row(graph: &mut [u64; GRAPH], a: usize)
+    requires { a < 512 }
     ensures { Emptied graph.old a graph.new }
 {
     graph[8 * a..8 * a + 8].fill(0);
 }
 
 // Takes all edges from each name of a set away.
-pub fn clear_rows(graph: &mut [u64], set: &NameSet)
-    requires { 4096 ≤ length graph.old }
+pub fn clear_rows(graph: &mut [u64; GRAPH], set: &NameSet)
     ensures { Cleared graph.old set.now.bits graph.new }
 {
-    for a in names(&set.bits, 0) {
+    for a in names(&set.bits) {
         clear_row(graph, a);
     }
 }
@@ -150,19 +155,19 @@ struct Entered {
 // Enters `node`, which is neither on the path nor cleared, as the path's name number `depth`, and looks at its successors in order: one on
 // the path closes a loop, one cleared is passed over, any other is entered.
 fn enter(
-    graph: &[u64],
-    colour: &mut [Colour; 512],
-    path: &mut [u64],
+    graph: &[u64; GRAPH],
+    colour: &mut [Colour; NAMES],
+    path: &mut [u64; PATH],
     depth: usize,
     node: usize,
 ) -> Entered
-    requires { CanEnter graph.now colour.old path.old depth node }
+    requires { CanEnter colour.old depth node }
     ensures { Enters graph.now colour.old path.old depth node colour.new path.new result.end result.looks }
 {
     colour[node] = Colour::OnPath;
     path[depth] = node as u64;
     let mut looks: u64 = 0;
-    for s in names(graph, node) {
+    for s in names(row_of(graph, node)) {
         looks += 1;
         match colour[s] {
             Colour::Cleared => {}
@@ -185,36 +190,28 @@ fn enter(
 }
 
 // The place of the first name of the loop that `path` ends with: the first place of its last name.
-fn first(path: &[u64], end: usize) -> usize
-    requires { CanPlace path.now end }
+fn first(path: &[u64; PATH], end: usize) -> usize
+    requires { (1 ≤ end) × (end ≤ 513) }
     ensures { Places path.now end result }
 {
     let x = path[end - 1];
     path[..end].iter().position(|y| *y == x).unwrap()
 }
 
-// Where a loop stands in the path, closed by its first name: from `start` up to `end`.
-#[derive(Clone, Copy)]
-pub struct Found {
-    pub start: usize,
-    pub end: usize,
-}
-
-// What a search found, and how many looks along edges it took.
+// What a search found, the part of the path that is a loop closed by its first name, and how many looks along edges it took.
 #[derive(Drop)]
 pub struct Searched {
-    pub found: Option<Found>,
+    pub found: Option<Range<usize>>,
     pub looks: u64,
 }
 
 // Looks for a loop, from each name of the set `defined` in order. `path` need not be cleared, and what it holds outside the loop is left free.
-pub fn search(graph: &[u64], defined: &NameSet, path: &mut [u64]) -> Searched
-    requires { CanSearch graph.now path.old }
+pub fn search(graph: &[u64; GRAPH], defined: &NameSet, path: &mut [u64; PATH]) -> Searched
     ensures { Searches graph.now defined.now.bits path.new result.found result.looks }
 {
-    let mut colour = [Colour::Free; 512];
+    let mut colour = [Colour::Free; NAMES];
     let mut looks: u64 = 0;
-    for v in names(&defined.bits, 0) {
+    for v in names(&defined.bits) {
         if colour[v] != Colour::Free {
             continue;
         }
@@ -222,7 +219,7 @@ pub fn search(graph: &[u64], defined: &NameSet, path: &mut [u64]) -> Searched
         looks += r.looks;
         if let Some(end) = r.end {
             let start = first(path, end);
-            let found = Some(Found { start, end });
+            let found = Some(start..end);
             return Searched { found, looks };
         }
     }

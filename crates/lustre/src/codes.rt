@@ -1,4 +1,5 @@
 // The codes of documents 01 and 02, as numbers: the digits behind the letter. W0051 alone is a warning. The clock codes E0132 to E0135 are left out.
+// Kept: no enum, since a line's fields are C's numbers; a code is put into a line and the definitions number it, so an enum would say no more.
 // A node has the name of an earlier one.
 pub const E0001: u64 = 1;
 // An imported node has equations.

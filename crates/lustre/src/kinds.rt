@@ -69,7 +69,9 @@ pub const NOT: u8 = 45;
 
 pub const MINUS: u8 = 46;
 
-// The binary operators, in the order of the Rust's `BinOp`; the last of each class.
+// The binary operators, in the order of the Rust's `BinOp`: the first of all, and the last of each class.
+pub const AND: u8 = 47;
+
 pub const IMPLIES: u8 = 50;
 
 pub const NOT_EQUAL: u8 = 52;

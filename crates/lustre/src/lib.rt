@@ -5,10 +5,11 @@
 pub mod codes;
 pub mod kinds;
 
-ghost use Rattle.std.specs.Prelude.{◌≡◌};
+ghost use Rattle.std.specs.Prelude.{◌≡◌, ◌<◌, length, get_or};
 ghost use Rattle.lustre.specs.Answer.{number_and_place, refusal_of, first_of, second_of};
 
 // The value of a field that has none: no record, name or line has this number.
+// Kept: no `Option`, since a line's fields are C's numbers.
 pub const NONE: u64 = 18446744073709551615;
 
 // The most records, the most bytes of text and the fewest words of work memory that may be lent.
@@ -18,7 +19,14 @@ pub const MAX_TEXT: usize = 16384;
 
 pub const MIN_WORK: usize = 4096;
 
+// There are at most so many names.
+pub const NAMES: usize = 512;
+
+// The lines of the report that document 01's program lends.
+pub const LINES: usize = 1024;
+
 // Place kinds, in the order of document 01.
+// Kept: no enum, since a line's fields are C's numbers, and a place kind is only put into a line.
 pub const AT_PACKAGE: u64 = 0;
 
 pub const AT_ENUM: u64 = 1;
@@ -34,6 +42,26 @@ pub const AT_NODE: u64 = 4;
 pub struct Records<'a> {
     pub kinds: &'a [u8],
     pub words: &'a [u64],
+}
+
+impl<'a> Records<'a> {
+    // The name whose number is the word of a record.
+    pub fn name(&self, at: usize) -> NameId
+        requires inside { at < length self.now.words.now }
+        requires small { get_or self.now.words.now at 0 < 512 }
+        ensures { result.number ≡ get_or self.now.words.now at 0 }
+    {
+        NameId {
+            number: self.words[at],
+        }
+    }
+}
+
+// A name by its number, which tables and sets of names go by. A line, a type and a search for a name take numbers that need be no name's.
+#[derive(Clone, Copy, PartialEq, Eq)]
+pub struct NameId {
+    pub number: u64,
+    pub ghost below: { number < 512 },
 }
 
 // A line of the report. `equation`, `step` and `name`, a name's number, may be NONE. Its layout is C's, so that `exports` can lend a slice of

@@ -9,13 +9,10 @@ ghost use Rattle.lustre.specs.Name.{◌among◌};
 ghost use Rattle.lustre.specs.Names.{above, barred, is_name, names_of, name_at};
 ghost use Rattle.names.specs.Scan.{piece_of, checked};
 
-use lustre::Refusal;
+use lustre::{NAMES, Refusal};
 
 // A name has at most so many bytes.
 const MAX_LENGTH: usize = 64;
-
-// A text has at most so many names.
-const MAX_NAMES: u64 = 512;
 
 // The names that are barred: the Rust's names of two types of inference.
 const BARRED: [&[u8]; 2] = [b"__tuple__", b"__unit__"];
@@ -45,13 +42,14 @@ fn is_name(n: u64, before: &[u8], piece: &[u8]) -> bool
         && piece.len() <= MAX_LENGTH
         && is_above(before, piece)
         && !is_barred(piece)
-        && n < MAX_NAMES
+        && n < NAMES as u64
 }
 
 // The number of names in a text, or the number of its first piece that is no name.
 pub fn check_names(text: &[u8]) -> Result<u64, Refusal>
     ensures { result ≡ checked text.now }
 {
+    // Kept: n is the answer too, and `enumerate` would lose the last count.
     let mut n = 0;
     let mut before: &[u8] = b"";
     for piece in text.split_inclusive(|b| *b == 0) {

@@ -1,11 +1,10 @@
 -- A node's ports and edges taken out again, and the lines behind those of its equations.
 -- Assumes nothing.
-use Prim.Native.Nat.{ℕ, ◌+◌}
+use Prim.Native.Nat.{ℕ}
 use mathlib.Core.Path.{◌≡◌, refl, sym, ◌∙◌}
 use mathlib.Core.Logic.{⊎_elim}
 use mathlib.Core.Bool.{Bool, true, false, ◌||◌, ◌&&◌}
 use mathlib.Core.List.{List, [], ◌∷◌, ◌++◌, append_assoc, append-nil}
-use lib.ListN.{length}
 use Rattle.lustre.specs.Name.{Name, ◌among◌, mem}
 use Rattle.lustre.specs.Types.{Ty}
 use Rattle.lustre.specs.Project.{Port, Heading, Equation, Node, port_names}
@@ -52,9 +51,8 @@ and_false false = refl
 
 -- where the rows of the names assigned are emptied, no edge is left
 pub cleared_blank : {ks ws : List ℕ} (g : Model ks ws) (n : Node) {set graph graph' : List ℕ} → Holds g.text (defined n.equations) set → GraphOf g n graph
-    → Cleared graph set graph' → length graph' ≡ 4096 → Blank graph'
-cleared_blank g n {set} {graph} k e c room = record {
-  room = room;
+    → Cleared graph set graph' → Blank graph'
+cleared_blank g n {set} {graph} k e c = record {
   empty = λ a b p r.
       c.edges a b p r
       ∙ ⊎_elim

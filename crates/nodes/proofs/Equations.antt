@@ -7,7 +7,7 @@ use mathlib.Core.Path.{◌≡◌, refl, sym, ◌∙◌, ap}
 use mathlib.Core.Bool.{Bool, true, false, ◌&&◌, ◌||◌}
 use mathlib.Core.List.{List, [], ◌∷◌, ◌++◌, map, map-append}
 use mathlib.Core.Option.{some}
-use lib.ListN.{length, get_or}
+use lib.ListN.{length}
 use Rattle.lustre.specs.Name.{Name, ◌among◌, mem}
 use Rattle.lustre.specs.Project.{Equation, Node, skeleton, port_names, is_function}
 use Rattle.lustre.specs.Line.{Note, Line, at_node}
@@ -245,16 +245,15 @@ module _ {ks ws sc : List ℕ} {at : ℕ} (g : NodeOpen ks ws sc at) (list : ℕ
           }
 
     -- none is left
-    pub checking_end : length g.n.equations ≤ e → length graph ≡ 4096 → EquationsChecked g.model g.n list q l₀ next set graph l
+    pub checking_end : length g.n.equations ≤ e → EquationsChecked g.model g.n list q l₀ next set graph l
     unfolding read_by mem
-    checking_end z room =
+    checking_end z =
         let none = ahead_none c.ahead z in
         record {
           next = ahead_end c.ahead z;
           reports = c.reports (rw (none, lines_none (context (skeleton g.model.P)) g.n c.seen q.number e) (reports_none g.model.number));
           assigned = holds_same (λ x. sym (defined_end x c.seen) ∙ ap (λ (l : List Equation). x among (c.seen ++ defined l)) (sym none) ∙ c.same x) c.holds;
           graph = record {
-            room = room;
             edges = λ a b s t. sym (or_false (has graph a b)) ∙ ap (λ (l : List Equation). has graph a b || read l a b) (sym none) ∙ c.edges a b s t;
           };
         }

@@ -6,10 +6,10 @@ use mathlib.Core.Path.{◌≡◌, refl, sym, ap, ◌∙◌}
 use mathlib.Core.List.{List, [], ◌∷◌, map}
 use mathlib.Core.Option.{none, some}
 use lib.ListN.{length, get_or, take, drop, drop_of_length-le}
-use Rattle.std.specs.Prelude.{Option, Some, None, IfSome, MatchOption}
+use Rattle.std.specs.Prelude.{Option, Some, None, IfSome}
 use Rattle.std.proofs.lemmas.List.{drop_more, drop-take}
 use Rattle.lustre.specs.Name.{Name}
-use Rattle.lustre.specs.Line.{Note, named}
+use Rattle.lustre.specs.Line.{named}
 use Rattle.lustre.specs.Project.{NodeKind, Function, Operator, Imported, Equation}
 use Rattle.lustre.specs.Walk.{search, path_of, looks_of}
 use Rattle.lustre.specs.Node.{path_notes, loop_notes, cycle_notes, looks}
@@ -18,7 +18,7 @@ use Rattle.lines.specs.declared.Spot.{Spot}
 use Rattle.lines.specs.declared.Lines.{Lines}
 use Rattle.lines.proofs.Laws.{noted_none, noted_append, noted_named}
 use Rattle.loops.specs.Search.{Answers}
-use Rattle.loops.specs.declared.Found.{Found}
+use Rattle.std.specs.declared.ops.Range.{Range}
 use Rattle.types.specs.Value.{Naming}
 use Rattle.scope.specs.Names.{Numbers}
 
@@ -60,7 +60,7 @@ module _ {path : List ℕ} {q : Spot} {l₀ : Lines} {i : ℕ} {l : Lines} (t : 
 
 module _ {num : Name → ℕ} {q : Spot} where
   -- the loop that is found has its lines
-  pub loop_found : {text : Naming} (qs : List Equation) {path : List ℕ} {l l' : Lines} {r : Option Found} {f : Found} {n : ℕ} → Answers text (search qs) path r n
+  pub loop_found : {text : Naming} (qs : List Equation) {path : List ℕ} {l l' : Lines} {r : Option (Range ℕ)} {f : Range ℕ} {n : ℕ} → Answers text (search qs) path r n
       → r ≡ Some f → IfSome r (λ f. f.start ≤ f.end) → Noted num q (path_notes 0 (map text (take (f.end - f.start) (drop f.start path)))) l l'
       → Noted num q (loop_notes (path_of (search qs))) l l'
   unfolding loop_notes
@@ -72,7 +72,7 @@ module _ {num : Name → ℕ} {q : Spot} where
       rw (g, c) d
 
   -- none is found, and there is no line
-  pub loop_none : {text : Naming} (qs : List Equation) {path : List ℕ} {l : Lines} {r : Option Found} {n : ℕ} → Answers text (search qs) path r n
+  pub loop_none : {text : Naming} (qs : List Equation) {path : List ℕ} {l : Lines} {r : Option (Range ℕ)} {n : ℕ} → Answers text (search qs) path r n
       → r ≡ None → Noted num q (loop_notes (path_of (search qs))) l l
   unfolding loop_notes
   loop_none qs a is = let g : path_of (search qs) ≡ none = rw is at a.loop in rw g noted_none

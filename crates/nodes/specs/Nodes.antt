@@ -1,6 +1,6 @@
 -- What the functions on one node ask, and what they answer.
 -- Assumes nothing: these are definitions.
-use Rattle.std.specs.Prelude.{ℕ, ◌+◌, ◌≤◌, ◌<◌, ◌≡◌, false, List, [], ◌∷◌, ◌++◌, map, length}
+use Rattle.std.specs.Prelude.{ℕ, ◌+◌, ◌≤◌, ◌<◌, ◌≡◌, false, List, [], ◌∷◌, ◌++◌, map}
 use Rattle.lustre.specs.Name.{◌among◌}
 use Rattle.lustre.specs.Project.{Port, Equation, Node, skeleton, port_names}
 use Rattle.lustre.specs.Line.{Note, bare}
@@ -14,7 +14,7 @@ use Rattle.lines.specs.Lines.{Noted}
 use Rattle.lines.specs.declared.Spot.{Spot}
 use Rattle.lines.specs.declared.Lines.{Lines}
 use Rattle.types.specs.Value.{Naming}
-use Rattle.types.specs.declared.Context.{Context}
+use Rattle.types.specs.declared.context.Context.{Context}
 use Rattle.loops.specs.Rows.{has}
 use Rattle.scope.specs.Model.{Model, Numbered}
 use Rattle.scope.specs.Tables.{records, Declared}
@@ -24,7 +24,6 @@ use Rattle.nodes.specs.declared.Opened.{Opened}
 
 -- no name has an edge
 pub record Blank (graph : List ℕ) : Type 0 where
-  pub room : length graph ≡ 4096
   pub empty : (a b : ℕ) → a < 512 → b < 512 → has graph a b ≡ false
 
 -- the ports and locals of a node
@@ -53,7 +52,6 @@ pub record NodeOpen (ks ws sc : List ℕ) (at : ℕ) : Type 0 where
 
 -- what the check leaves of the graph: an edge for each name read in the same instant
 pub record GraphOf {ks ws : List ℕ} (g : Model ks ws) (n : Node) (graph : List ℕ) : Type 0 where
-  pub room : length graph ≡ 4096
   pub edges : (a b : ℕ) → a < 512 → b < 512 → has graph a b ≡ (g.text b among read_by (g.text a) n.equations)
 
 -- where the lists of the node n at a record are

@@ -2,7 +2,7 @@
 // scope, and its edges in the graph, only while it is checked, and are taken out by its own lists: so a node costs what its records cost.
 #![tactic(auto)]
 
-ghost use Rattle.std.specs.Prelude.{ℕ, ◌+◌, ◌≤◌, ◌≡◌, List, [], map, length};
+ghost use Rattle.std.specs.Prelude.{ℕ, ◌+◌, ◌≤◌, ◌≡◌, List, [], map};
 ghost use Rattle.lustre.specs.Name.{Name};
 ghost use Rattle.lustre.specs.Project.{NodeKind, Equation, Imported, port_names, is_function};
 ghost use Rattle.lustre.specs.Deps.{defined};
@@ -18,25 +18,26 @@ ghost use Rattle.nodes.specs.Nodes.{Blank, NodeGiven, InCheck, InCheckOf, GraphO
 
 use equations::{add_edges, check_equation};
 use lines::{Lines, Spot};
-use loops::{NameSet, clear_rows, search};
+use loops::{GRAPH, NameSet, PATH, Searched, clear_rows, search};
 use lustre::{AT_NODE, NONE, Records, codes, kinds};
 use ports::{absent_ports, absent_probes, add_names, declare_ports, forget_ports};
 use rules::ports::ports_end;
-use types::{Context, Scope};
+use types::context::{Context, Scope};
 
 // The lines of the equations of a node in its check, lib.rs 378, and the record behind them; the names assigned are added to the set and the
 // edges to the graph.
+// Kept: `next` goes beside the for, since checking an equation tells where it ends.
+// Kept: what stands in the records is asked, here and below, and is no ghost fact: it is data, and a ghost fact has one proof alone.
 fn check_equations(
     ctx: &Context,
     lists: &Opened,
     ins: &NameSet,
     assigned: &mut NameSet,
-    graph: &mut [u64],
+    graph: &mut [u64; GRAPH],
     q: Spot,
     lines: &mut Lines,
 ) -> usize
     requires node { InCheckOf ctx.now lists.now }
-    requires room { length graph.old ≡ 4096 }
     ensures { (g : InCheckOf ctx.now lists.now) → is_function g.node.n.kind ≡ q.function → q.place ≡ 4 →
         Holds g.node.model.text (port_names g.node.n.inputs) ins.now.bits → Holds g.node.model.text [] assigned.old.bits → Blank graph.old →
         EquationsChecked g.node.model g.node.n lists.now.equations q lines.old result assigned.new.bits graph.new lines.new }
@@ -61,24 +62,22 @@ fn loop_lines(path: &[u64], q: Spot, lines: &mut Lines)
 
 // The lines of the loop that the search finds, lib.rs 495, and the looks that it takes. `path` is lent to the search.
 fn check_loops(
-    graph: &[u64],
+    graph: &[u64; GRAPH],
     assigned: &NameSet,
-    path: &mut [u64],
+    path: &mut [u64; PATH],
     q: Spot,
     lines: &mut Lines,
 ) -> u64
-    requires graph { length graph.now ≡ 4096 }
-    requires path { 513 ≤ length path.old }
     ensures few { result ≤ 262144 }
     ensures noted { (kind : NodeKind) (qs : List Equation) (text : Naming) (num : Name → ℕ) (names : ℕ) → (kind ≡ Imported → ⊥) →
         Numbers text num → Shows qs text names graph.now assigned.now.bits →
         Noted num q (cycle_notes kind qs) lines.old lines.new × (result ≡ looks_of kind qs) }
 {
-    let searched = search(graph, assigned, path);
-    if let Some(found) = searched.found {
-        loop_lines(&path[found.start..found.end], q, lines);
+    let Searched { found, looks } = search(graph, assigned, path);
+    if let Some(range) = found {
+        loop_lines(&path[range], q, lines);
     }
-    searched.looks
+    looks
 }
 
 // Where a node's lists are.
@@ -122,14 +121,12 @@ fn close_node(
     lists: &Opened,
     probes: usize,
     assigned: &NameSet,
-    graph: &[u64],
-    path: &mut [u64],
+    graph: &[u64; GRAPH],
+    path: &mut [u64; PATH],
     q: Spot,
     lines: &mut Lines,
 ) -> u64
-    requires node { (g : InCheckOf ctx.now lists.now) × (probes ≡ probes_from g.node.n g.at) }
-    requires graph { length graph.now ≡ 4096 }
-    requires path { 513 ≤ length path.old }
+    requires { (g : InCheckOf ctx.now lists.now) × (probes ≡ probes_from g.node.n g.at) }
     ensures { (g : InCheckOf ctx.now lists.now) → probes ≡ probes_from g.node.n g.at → (g.node.n.kind ≡ Imported → ⊥) →
         Holds g.node.model.text (defined g.node.n.equations) assigned.now.bits → GraphOf g.node.model g.node.n graph.now →
         NodeClosed g.node.model g.node.n q lines.old result lines.new }
@@ -154,10 +151,9 @@ fn clear_node(
     scope: &mut Scope,
     lists: &Opened,
     assigned: &NameSet,
-    graph: &mut [u64],
+    graph: &mut [u64; GRAPH],
 )
     requires node { InCheck records.now.kinds.now records.now.words.now scope.old.entries lists.now }
-    requires room { length graph.old ≡ 4096 }
     ensures { (g : InCheck records.now.kinds.now records.now.words.now scope.old.entries lists.now) →
         Holds g.node.model.text (defined g.node.n.equations) assigned.now.bits → GraphOf g.node.model g.node.n graph.old →
         Declared g.node.model [] scope.new.entries × Blank graph.new }
@@ -172,8 +168,8 @@ fn clear_node(
 fn check_body(
     records: &Records,
     scope: &mut Scope,
-    graph: &mut [u64],
-    path: &mut [u64],
+    graph: &mut [u64; GRAPH],
+    path: &mut [u64; PATH],
     at: usize,
     q: Spot,
     lines: &mut Lines,
@@ -182,7 +178,6 @@ fn check_body(
         × (is_function g.n.kind ≡ q.function) × (g.n.kind ≡ Imported → ⊥) }
     requires spot { (q.place ≡ 4) × (q.equation ≡ 18_446_744_073_709_551_615) }
     requires blank { Blank graph.old }
-    requires path { 513 ≤ length path.old }
     ensures { (g : NodeGiven records.now.kinds.now records.now.words.now scope.old.entries at) → is_function g.n.kind ≡ q.function →
         (g.n.kind ≡ Imported → ⊥) → NodeChecked g.model g.n q.number lines.old result scope.new.entries graph.new lines.new }
 {
@@ -218,15 +213,14 @@ fn check_imported(records: &Records, at: usize, q: Spot, lines: &mut Lines)
 pub fn check_node(
     records: &Records,
     scope: &mut Scope,
-    graph: &mut [u64],
-    path: &mut [u64],
+    graph: &mut [u64; GRAPH],
+    path: &mut [u64; PATH],
     at: usize,
     number: u64,
     lines: &mut Lines,
 ) -> u64
     requires node { NodeGiven records.now.kinds.now records.now.words.now scope.old.entries at }
     requires blank { Blank graph.old }
-    requires path { 513 ≤ length path.old }
     ensures { (g : NodeGiven records.now.kinds.now records.now.words.now scope.old.entries at) →
         NodeChecked g.model g.n number lines.old result scope.new.entries graph.new lines.new }
 {

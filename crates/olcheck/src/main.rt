@@ -4,7 +4,7 @@
 
 ghost use Rattle.std.specs.Prelude.{◌≤◌, length, IfOk};
 
-use response::{Status, respond};
+use response::{OUT, Status, respond};
 use std::fs::OpenOptions;
 use std::io::{Read, Write};
 use std::os::unix::fs::PermissionsExt;
@@ -12,10 +12,7 @@ use std::rt::Files;
 use std::{fs, io};
 
 // One byte more than the longest file that is not refusal 1, so that a longer one is seen to be wrong.
-const FILE: usize = 53257;
-
-// Room for what is printed: a header of at most 57 bytes and 1,024 lines of at most 171.
-const OUT: usize = 175161;
+const FILE: usize = format::FILE + 1;
 
 // The name of file descriptor 3. It is a link, whose own mode says how the descriptor is open.
 const DESCRIPTOR: &str = "/proc/self/fd/3";
@@ -50,12 +47,7 @@ fn write_digit(rt: &impl Files, digit: &[u8]) -> io::Result<()> {
 
 // Writes the digit of a status; that the descriptor may be closed is no fault.
 fn tell(rt: &impl Files, status: Status) {
-    let digit = match status {
-        Status::Clean => b"0",
-        Status::Errors => b"1",
-        Status::Refused => b"2",
-    };
-    let _ = write_digit(rt, digit);
+    let _ = write_digit(rt, &[b'0' + status as u8]);
 }
 
 fn main(rt: HostRuntime) -> io::Result<()> {

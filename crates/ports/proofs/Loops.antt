@@ -1,17 +1,15 @@
 -- What the loops over a list of ports or of names keep: what is left of the list, and that what is done for the rest is done for the whole.
 -- Assumes nothing.
 use Rattle.std.specs.Prelude.{if◌then◌else◌}
-use Rattle.std.specs.Prelude.{Option, Some, None, is_some, MatchOption}
-use Prim.Native.Nat.{ℕ, ◌+◌, ◌-◌, ◌≤◌, ◌<◌}
+use Rattle.std.specs.Prelude.{Some, None}
+use Prim.Native.Nat.{ℕ, ◌+◌, ◌-◌, ◌<◌}
 use native.Mathlib.Omega.{arith}
 use mathlib.Core.Path.{◌≡◌, refl, sym, ap, ◌∙◌}
 use mathlib.Core.Logic.{⊎_elim}
 use mathlib.Core.Bool.{Bool, true, false, not, ◌||◌, or-true}
 use mathlib.Core.List.{List, [], ◌∷◌, ◌++◌, append_assoc, append-nil}
 use lib.Dec.{eqb}
-use borrow.Author.Tests.{eq-eqb, ne_eqb}
-use lib.ListN.{length, get_or, take, drop, length-take, length-drop, set as with}
-use lib.Seq.{get_or-take, get_or-drop}
+use lib.ListN.{length, get_or, set as with}
 use Rattle.lustre.specs.Name.{Name, ◌is◌, ◌among◌}
 use Rattle.lustre.specs.Types.{Ty}
 use Rattle.lustre.specs.Project.{Port, Heading, port_names}
@@ -21,6 +19,7 @@ use Rattle.demands.proofs.Sets.{split, mem_eq, mem_ne, mem_snoc}
 use Rattle.standing.specs.Standing.{Source, source, word, EachAt, MentionAt, one_record}
 use Rattle.standing.proofs.Sizes.{First, first, no_items}
 use Rattle.lustre.specs.Answer.{no_value}
+use Rattle.lustre.specs.declared.NameId.{NameId}
 use Rattle.lustre.specs.declared.Records.{Records}
 use Rattle.lines.specs.Lines.{Put, Noted}
 use Rattle.lines.specs.declared.Spot.{Spot}
@@ -129,7 +128,7 @@ module _ (code : ℕ) (known : List Name) (a : Name) where
 
 -- a walk is at the start of a list, as `ports_of` gives it
 abbrev pub AtStart : Records → ℕ → Ports → Type 0
-AtStart r list w = (w.records.now ≡ r) × (w.at ≡ list + 1) × (w.left ≡ get_or r.words.now list 0)
+AtStart r list w = (w.records ≡ r) × (w.at ≡ list + 1) × (w.left ≡ get_or r.words.now list 0)
 
 -- ---- names that are not known
 
@@ -145,13 +144,13 @@ pub lacking_start : {r : Records} {list : ℕ} (g : PortsOf r list) {w : Ports} 
 lacking_start {r} g e = record { ports = left_start r g e; rest = λ num b xs k d. d }
 
 module _ {r : Records} {list : ℕ} {g : PortsOf r list} {w : Ports} {known : List ℕ} {code : ℕ} {q : Spot} {o l : Lines} where
-  module _ (h : Lacking r g w known code q o l) {v : Ports} {p : ℕ × ℕ} (d : Walked w (Some p) v) where
+  module _ (h : Lacking r g w known code q o l) {v : Ports} {p : NameId × ℕ} (d : Walked w (Some p) v) where
     -- whether a list of names has the first port's name is whether the set has it
-    member : (xs : List Name) → Holds g.text xs known → has known 0 p.0 ≡ ((left_first h.ports d).p.0 among xs)
+    member : (xs : List Name) → Holds g.text xs known → has known 0 p.0.number ≡ ((left_first h.ports d).p.0 among xs)
     member xs t = let f = left_first h.ports d in rw (left_name h.ports d) (t.each (word (source_of r g.text) w.at) f.name.small ∙ ap (λ (x : Name). x among xs) f.name.text)
 
     -- one more, which has a note or none
-    pub lacking_known : has known 0 p.0 ≡ true → Lacking r g v known code q o l
+    pub lacking_known : has known 0 p.0.number ≡ true → Lacking r g v known code q o l
     lacking_known e = record {
       ports = left_next h.ports d;
       rest = λ num b xs t s. h.rest num b xs t (
@@ -159,7 +158,7 @@ module _ {r : Records} {list : ℕ} {g : PortsOf r list} {w : Ports} {known : Li
           rw (names_more f.p f.others f.are, absent_more code xs f.p.0 (port_names f.others), absent_known code xs f.p.0 (sym (member xs t) ∙ e)) s);
     }
 
-    pub lacking_unknown : has known 0 p.0 ≡ false → {l₁ : Lines} → Put q code no_value p.0 l l₁ → Lacking r g v known code q o l₁
+    pub lacking_unknown : has known 0 p.0.number ≡ false → {l₁ : Lines} → Put q code no_value p.0.number l l₁ → Lacking r g v known code q o l₁
     lacking_unknown e m = record {
       ports = left_next h.ports d;
       rest = λ num b xs t s. h.rest num b xs t (
@@ -188,7 +187,7 @@ adding_start {r} g e = record { ports = left_start r g e; rest = λ k. k }
 
 module _ {r : Records} {list : ℕ} {g : PortsOf r list} {w v : Ports} {set₀ set : List ℕ} (l : Adding r g w set₀ set) where
   -- one more
-  pub adding_next : Injective g.text → {p : ℕ × ℕ} (d : Walked w (Some p) v) {set₁ : List ℕ} → Connected set 0 p.0 set₁ → Adding r g v set₀ set₁
+  pub adding_next : Injective g.text → {p : NameId × ℕ} (d : Walked w (Some p) v) {set₁ : List ℕ} → Connected set 0 p.0.number set₁ → Adding r g v set₀ set₁
   adding_next inj d e = record {
     ports = left_next l.ports d;
     rest = λ s. l.rest (λ xs t.
@@ -216,7 +215,7 @@ leaving_start {r} g e = record { ports = left_start r g e; done = λ as' rs vs c
 
 module _ {r : Records} {list : ℕ} {g : PortsOf r list} {w v : Ports} {sc₀ sc : List ℕ} (l : Leaving r g w sc₀ sc) where
   -- one more
-  pub leaving_next : Injective g.text → {p : ℕ × ℕ} (d : Walked w (Some p) v) → Leaving r g v sc₀ (with sc (p.0 + 2560) 0)
+  pub leaving_next : Injective g.text → {p : NameId × ℕ} (d : Walked w (Some p) v) → Leaving r g v sc₀ (with sc (p.0.number + 2560) 0)
   leaving_next inj {p} d = record {
     ports = left_next l.ports d;
     done = λ as' rs vs cs ns xs t.
@@ -292,9 +291,9 @@ entered_next {S} {rest = rest} {code = code} {at = at} inj f d e =
 module _ {r : Records} {list : ℕ} {g : PortsOf r list} {w v : Ports} {code : ℕ} {q : Spot} {sc₀ : List ℕ} {o : Lines} {sc : List ℕ} {l : Lines}
     (h : Entering r g w code q sc₀ o sc l) where
   -- one more
-  pub entering_next : Injective g.text → {p : ℕ × ℕ} (d : Walked w (Some p) v) {sc₁ : List ℕ} {l₁ : Lines}
-      → ((num : Name → ℕ) (x : Name) → num x ≡ p.0 → Noted num q (if eqb (get_or sc (p.0 + 2560) 0) 0 then [] else about code x ∷ []) l l₁)
-      → sc₁ ≡ with sc (p.0 + 2560) (p.1 + 1) → Entering r g v code q sc₀ o sc₁ l₁
+  pub entering_next : Injective g.text → {p : NameId × ℕ} (d : Walked w (Some p) v) {sc₁ : List ℕ} {l₁ : Lines}
+      → ((num : Name → ℕ) (x : Name) → num x ≡ p.0.number → Noted num q (if eqb (get_or sc (p.0.number + 2560) 0) 0 then [] else about code x ∷ []) l l₁)
+      → sc₁ ≡ with sc (p.0.number + 2560) (p.1 + 1) → Entering r g v code q sc₀ o sc₁ l₁
   entering_next inj d m e = record {
     ports = left_next h.ports d;
     so_far = λ as' rs vs cs ns env T.
@@ -316,35 +315,6 @@ module _ {r : Records} {list : ℕ} {g : PortsOf r list} {w v : Ports} {code : �
   }
 
 -- ---- probes that are not in force
-
--- what an answer of `declared` says where it is none, and where it is not
-pub at_none : {e : ℕ} {b : Bool} (r : Option ℕ) → is_some r ≡ not b → b ≡ true → MatchOption r (e ≡ 0) (λ p. e ≡ p + 1) → e ≡ 0
-at_none None q h m = m
-at_none {b = b} (Some p) q h m = let z : not b ≡ not true = ap not h in cc
-
-pub at_some : {e : ℕ} {b : Bool} (r : Option ℕ) → is_some r ≡ not b → b ≡ false → MatchOption r (e ≡ 0) (λ p. e ≡ p + 1) → (p : ℕ) × (e ≡ p + 1)
-at_some {b = b} None q h m = let z : not b ≡ not false = ap not h in cc
-at_some (Some p) q h m = (p, m)
-
--- names end within the records
-each_within : (S : Source) (xs : List Name) (at : ℕ) → at ≤ length S.ws → EachAt (MentionAt S) one_record xs at → at + length xs ≤ length S.ws
-unfolding EachAt
-each_within S [] at h s = omega arith
-each_within S (x ∷ xs) at h s = let r = each_within S xs (at + 1) (omega (arith, s.0.head.in_words)) s.1 in omega arith
-
--- and so does a list of them
-pub names_within : {ws : List ℕ} {list : ℕ} (g : NamesHere ws list) → list + 1 + get_or ws list 0 ≤ length ws
-names_within {ws} {list} g =
-    let end = each_within (source g.ks ws g.text) g.xs (list + 1) (omega (arith, g.listed.head.in_words)) g.listed.items in
-    omega (arith, g.listed.many)
-
--- a word of the part of the words that has a list's names
-pub probe_word : {ws : List ℕ} {list : ℕ} (g : NamesHere ws list) (k : ℕ) → k < get_or ws list 0
-    → get_or (take (list + 1 + get_or ws list 0 - (list + 1)) (drop (list + 1) ws)) k 0 ≡ get_or ws (list + 1 + k) 0
-probe_word {ws} {list} g k h = get_or-take (list + 1 + get_or ws list 0 - (list + 1)) (drop (list + 1) ws) k 0 (omega arith) ∙ get_or-drop (list + 1) ws k 0
-
-pub probe_count : {ws : List ℕ} {list : ℕ} (g : NamesHere ws list) → length (take (list + 1 + get_or ws list 0 - (list + 1)) (drop (list + 1) ws)) ≡ get_or ws list 0
-probe_count g = omega (arith, length-take {A = ℕ}, length-drop {A = ℕ}, names_within g)
 
 -- the note on one name, by a test
 absent_one : (code : ℕ) (known : List Name) (a : Name) → absent code known (a ∷ []) ≡ (if a among known then [] else about code a ∷ [])
@@ -390,11 +360,11 @@ module _ {ws : List ℕ} {list k : ℕ} {g : NamesHere ws list} {sc : List ℕ} 
         }
 
     -- whose name is in force, or is not
-    pub probing_known : (p : ℕ) → get_or sc (get_or ws (list + 1 + k) 0 + 2560) 0 ≡ p + 1 → Probing g (k + 1) sc q o l
-    probing_known p e = probing_next (λ num c. rw (ne_eqb (get_or sc (get_or ws (list + 1 + k) 0 + 2560) 0) 0 (λ z. omega arith)) noted_none)
+    pub probing_known : eqb (get_or sc (get_or ws (list + 1 + k) 0 + 2560) 0) 0 ≡ false → Probing g (k + 1) sc q o l
+    probing_known e = probing_next (λ num c. rw e noted_none)
 
-    pub probing_unknown : get_or sc (get_or ws (list + 1 + k) 0 + 2560) 0 ≡ 0 → {l₁ : Lines} → Put q 150 no_value (get_or ws (list + 1 + k) 0) l l₁ → Probing g (k + 1) sc q o l₁
-    probing_unknown e m = probing_next (λ num c. rw (eq-eqb (get_or sc (get_or ws (list + 1 + k) 0 + 2560) 0) 0 e) (noted_about (g.text (get_or ws (list + 1 + k) 0)) c m))
+    pub probing_unknown : eqb (get_or sc (get_or ws (list + 1 + k) 0 + 2560) 0) 0 ≡ true → {l₁ : Lines} → Put q 150 no_value (get_or ws (list + 1 + k) 0) l l₁ → Probing g (k + 1) sc q o l₁
+    probing_unknown e m = probing_next (λ num c. rw e (noted_about (g.text (get_or ws (list + 1 + k) 0)) c m))
 
   -- none is left
   pub probing_end : k ≡ get_or ws list 0 → (num : Name → ℕ) → Numbers g.text num

@@ -18,14 +18,14 @@ ghost use Rattle.ports.specs.Ports.{PortsEntered};
 
 use lines::{Lines, Spot};
 use loops::NameSet;
-use lustre::{NONE, Records, codes};
-use rules::declared;
+use lustre::{NONE, NameId, Records, codes};
 use rules::walk::ports_of;
 use scope::redeclare;
-use types::Scope;
+use types::context::Scope;
 
 // Enters the ports of the list at a place, with a line for each whose name is in force already: E0010, E0011 or E0012. The record behind
 // the list.
+// Kept: what stands in the records is asked, here and below, and is no ghost fact: it is data, and a ghost fact has one proof alone.
 pub fn declare_ports(
     records: &Records,
     scope: &mut Scope,
@@ -37,7 +37,7 @@ pub fn declare_ports(
     requires { PortsOf records.now list × (length records.now.kinds.now ≤ 4096) }
     ensures { (g : PortsOf records.now list) → Injective g.text → PortsEntered (source_of records.now g.text) g.ps list code q scope.old.entries lines.old result scope.new.entries lines.new }
 {
-    // Kept: no `for`, since where the walk ends is the answer.
+    // Kept: no `for`, since where the walk ends is the answer, and behind a `for` over `ports.by_ref()` a proof knows nothing of it.
     let mut ports = ports_of(records, list);
     while let Some((name, at)) = ports.next() {
         redeclare(scope, Scope::PORTS, name, at, code, q, lines);
@@ -69,20 +69,22 @@ pub fn absent_ports(
 {
     for (name, _) in ports_of(records, list) {
         if !set.contains(name) {
-            lines.put(q, code, NONE, name);
+            lines.put(q, code, NONE, name.number);
         }
     }
 }
 
 // A line for each probe of the list at a place whose name is not in force, lib.rs 510: E0150.
+#[tactic(auto, using(scope::proofs::Names::names_inside))]
 pub fn absent_probes(words: &[u64], scope: &Scope, list: usize, q: Spot, lines: &mut Lines)
     requires { NamesHere words.now list }
     ensures { (g : NamesHere words.now list) (num : Name → ℕ) → Numbers g.text num → (as' : List (Name × Ty)) (rs : List (Name × List Port)) (vs : List (Name × Name)) (cs : List (Name × Ty)) (ns : List (Name × Heading)) (env : List Port) → Tables (source g.ks words.now g.text) as' rs vs cs ns env scope.now.entries → Noted num q (absent 150 (port_names env) g.xs) lines.old lines.new }
 {
     let count = words[list] as usize;
-    for name in &words[list + 1..list + 1 + count] {
-        if declared(scope, Scope::PORTS, *name).is_none() {
-            lines.put(q, codes::E0150, NONE, *name);
+    for word in &words[list + 1..list + 1 + count] {
+        let name = NameId { number: *word };
+        if scope.declared(Scope::PORTS, name).is_none() {
+            lines.put(q, codes::E0150, NONE, name.number);
         }
     }
 }
@@ -93,6 +95,6 @@ pub fn forget_ports(records: &Records, scope: &mut Scope, list: usize)
     ensures { (g : PortsOf records.now list) → Injective g.text → (as' : List (Name × Ty)) (rs : List (Name × List Port)) (vs : List (Name × Name)) (cs : List (Name × Ty)) (ns : List (Name × Heading)) (xs : List Name) → let S = source_of records.now g.text in Forgetting S as' rs vs cs ns (port_names g.ps ++ xs) scope.old.entries → Forgetting S as' rs vs cs ns xs scope.new.entries }
 {
     for (name, _) in ports_of(records, list) {
-        scope.entries[name as usize + Scope::PORTS] = 0;
+        scope.forget(Scope::PORTS, name);
     }
 }

@@ -6,7 +6,7 @@ use native.Mathlib.Numerals.{add-one}
 use mathlib.Core.Path.{◌≡◌, ap, ◌∙◌}
 use mathlib.Core.List.{List, []}
 use lib.ListN.{length, get_or, take, replicate, length-replicate, get_or-replicate}
-use lib.Seq.{length-take-le, get_or-take}
+use lib.Seq.{get_or-take}
 use Rattle.lustre.specs.Project.{skeleton, all_nodes}
 use Rattle.lustre.specs.Line.{Line}
 use Rattle.lustre.specs.Node.{looks as looks_of}
@@ -29,7 +29,6 @@ unfolding has
 blank_front {w} {n} e l =
     let long : length w ≡ n = ap length e ∙ length-replicate {A = ℕ} n 0 in
     record {
-      room = length-take-le 4096 w (omega arith);
       empty = λ a b p q. (
           let i = 8 * a + b / 64 in
           let zero : get_or (take 4096 w) i 0 ≡ 0 = get_or-take 4096 w i 0 (omega arith) ∙ ap (λ (v : List ℕ). get_or v i 0) e ∙ get_or-replicate {A = ℕ} n i 0 0 (omega arith) in

@@ -8,7 +8,7 @@ use Rattle.lustre.specs.Answer.{answer, reported, writes, stored_report, work_af
 use Rattle.lustre.specs.declared.Line.{Line}
 use Rattle.lustre.specs.declared.Answer.{Answer}
 use Rattle.lines.specs.Lines.{words, room}
-use Rattle.types.specs.declared.Context.{Context}
+use Rattle.types.specs.declared.context.Context.{Context}
 use Rattle.scope.specs.Model.{Model}
 use Rattle.scope.specs.Tables.{Declared}
 use Rattle.scope.specs.Writes.{line_by}

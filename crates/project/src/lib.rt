@@ -17,19 +17,14 @@ ghost use Rattle.project.specs.Call.{Called, ModelDeclared, ModelDeclaredOf, Jud
 use constants::check_constant;
 use input::check_input;
 use lines::{Lines, Spot};
-use loops::NameSet;
-use lustre::{AT_CONSTANT, Answer, Records, kinds};
+use loops::{GRAPH, NameSet, PATH};
+use lustre::{AT_CONSTANT, Answer, NAMES, Records, kinds};
 use nodes::check_node;
 use tables::{check_aliases, declare_nodes, declare_types};
-use types::{Context, ENTRIES, NAMES, Scope};
-
-// Words of the graph: eight for each of 512 names.
-pub const GRAPH: usize = 4096;
-
-// Words of the path that the search for a loop is lent: a loop is closed by its first name.
-const PATH: usize = NAMES + 1;
+use types::context::{Context, ENTRIES, Scope};
 
 // The lines of every constant, in one pass, lib.rs 262.
+// Kept: the project that stands in the records is asked, here and below, and is no ghost fact: it is data, and a ghost fact has one proof alone.
 fn check_constants(ctx: &Context, lines: &mut Lines)
     requires { ModelDeclaredOf ctx.now }
     ensures { (g : ModelDeclaredOf ctx.now) →
@@ -50,7 +45,12 @@ fn check_constants(ctx: &Context, lines: &mut Lines)
 }
 
 // The lines and looks of every node, in one pass. The graph and the path are lent to one node after another.
-fn check_nodes(records: &Records, scope: &mut Scope, graph: &mut [u64], lines: &mut Lines) -> u64
+fn check_nodes(
+    records: &Records,
+    scope: &mut Scope,
+    graph: &mut [u64; GRAPH],
+    lines: &mut Lines,
+) -> u64
     requires declared { ModelDeclared records.now.kinds.now records.now.words.now scope.old.entries }
     requires blank { Blank graph.old }
     ensures { (g : ModelDeclared records.now.kinds.now records.now.words.now scope.old.entries) →
@@ -74,7 +74,7 @@ fn check_nodes(records: &Records, scope: &mut Scope, graph: &mut [u64], lines: &
 
 // The lines of the project's report and the number of edges followed. `names` is the number of names, and `graph` 4,096 zero words that are
 // lent to one node after another.
-pub fn report(records: &Records, names: u64, graph: &mut [u64], lines: &mut Lines) -> u64
+pub fn report(records: &Records, names: u64, graph: &mut [u64; GRAPH], lines: &mut Lines) -> u64
     requires model { (g : Model records.now.kinds.now records.now.words.now) × (g.names ≡ names) }
     requires aliases { AliasesBelow records.now.kinds.now records.now.words.now names }
     requires blank { Blank graph.old }
@@ -115,7 +115,8 @@ fn judge(records: &Records, names: u64, work: &mut [u64], out: &mut [u64]) -> An
         count: 0,
     };
     work.fill(0);
-    let looks = report(records, names, &mut work[..GRAPH], &mut lines);
+    let graph = work.first_chunk_mut::<GRAPH>().unwrap();
+    let looks = report(records, names, graph, &mut lines);
     work.fill(0);
     let count = lines.count;
     if count <= room {
@@ -136,6 +137,7 @@ pub fn report_blank(work: &mut [u64]) -> Answer
 // The check of a project: a report or one of eight refusals. `lines` has six words a line, in the order of the fields of `lustre::Line`.
 // Refusals 1 to 6 and 8 change nothing. After a report the lines are written, and after refusal 7 the first that fit; then all work memory is
 // zero.
+// Kept: kinds and words are two parameters, since C lends them so.
 pub fn check(
     kinds: &[u8],
     words: &[u64],

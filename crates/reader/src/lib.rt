@@ -8,7 +8,7 @@ ghost use Rattle.std.specs.Prelude.{◌≡◌, get_or};
 ghost use Rattle.reader.specs.Move.{count, moved};
 
 // The lent kinds and words, and the number of the record that the reader stands at.
-// Kept: no `Iterator`, since a reader is a place whose kind and word can be read again, and `next` leaves it as it was.
+// Kept: document 01 asks for a place that can be read again, so it is no `Iterator`, and `next` leaves it as it was.
 #[derive(Clone, Copy)]
 pub struct Reader<'a> {
     pub kinds: &'a [u8],
@@ -31,6 +31,7 @@ impl<'a> Reader<'a> {
     }
 
     // The kind of the record that the reader stands at, and 0 past the last kind.
+    // Kept: no option, here and of the word, since each promises the number past the last record too.
     pub fn kind(self) -> u8
         ensures { result ≡ get_or self.entry.kinds.now self.entry.at 0 }
     {

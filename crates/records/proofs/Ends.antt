@@ -12,6 +12,7 @@ use Rattle.demands.specs.Reading.{reads}
 use Rattle.demands.proofs.ReadBack.{reads_back}
 use Rattle.demands.proofs.Reading.{flattens_back}
 use Rattle.std.proofs.Common.{Option, None, Ok, Err}
+use Rattle.std.specs.Result.{IsOk}
 use Rattle.records.specs.Places.{Walk, go, Passed}
 use Rattle.records.specs.Stands.{Stands, PartAt, EndOf}
 use Rattle.records.specs.declared.Reached.{Reached}
@@ -62,5 +63,5 @@ module _ (ks ws : List ℕ) (c : Class) (at : ℕ) (a : PartAt ks ws c at) (r : 
   pub ended : (e : Reached) → r ≡ Ok e → EndOf ks ws c at e.next
   ended e q ρ v end s = let z = (walk_ends ρ v end s).1 in cc
 
-  pub never : (e : ℕ) → r ≡ Err e → ⊥
-  never e q = let z = (walk_ends (λ n. []) a.tree a.end a.stands).1 in cc
+  pub ends : IsOk r
+  ends = rw (walk_ends (λ n. []) a.tree a.end a.stands).1 refl

@@ -14,7 +14,7 @@ ghost use Rattle.records.specs.Places.{class_of, wanted, mark, wants, Passed};
 ghost use Rattle.records.specs.Stands.{PartAt, EndOf};
 ghost use Rattle.records.specs.Tables.{placed, Structured};
 
-use lustre::{MAX_RECORDS, Refusal};
+use lustre::{MAX_RECORDS, Records, Refusal};
 use reader::Reader;
 pub use tables::{Class, Sort};
 use tables::{Shape, WordClass};
@@ -146,6 +146,7 @@ impl<'a> Structure<'a> {
 
 // Refusals 5 and 6 in one pass: the records form one project, or the first that cannot stand or is left over (the record count if they
 // end early), or the first too deep.
+// Kept: kinds and words are two parameters, since C lends them so and one may be longer than the other.
 pub fn check_structure(kinds: &[u8], words: &[u64]) -> Result<(), Refusal>
     ensures { Structured kinds.now words.now result }
 {
@@ -173,19 +174,20 @@ pub fn check_structure(kinds: &[u8], words: &[u64]) -> Result<(), Refusal>
 }
 
 // The end of the part of a class that stands at a position.
-pub fn part_end(kinds: &[u8], words: &[u64], class: Class, at: usize) -> usize
-    requires { PartAt kinds.now words.now (class_of class) at }
-    ensures { EndOf kinds.now words.now (class_of class) at result }
+pub fn part_end(records: &Records, class: Class, at: usize) -> usize
+    requires { PartAt records.now.kinds.now records.now.words.now (class_of class) at }
+    ensures { EndOf records.now.kinds.now records.now.words.now (class_of class) at result }
 {
-    let structure = Structure { kinds, words };
+    let structure = Structure {
+        kinds: records.kinds,
+        words: records.words,
+    };
     let start = Reached {
         next: at,
         deep: None,
     };
-    match structure.part(Want { class, level: 1 }, start) {
-        Ok(end) => end.next,
-        Err(at) => at,
-    }
+    let want = Want { class, level: 1 };
+    structure.part(want, start).unwrap().next
 }
 
 // Whether a kind is known.
@@ -221,7 +223,7 @@ fn judge(r: Reader, names: u64) -> bool
 }
 
 // The first record out of range, from where the reader stands on.
-// Kept: it walks by the reader, whose `next` counts the records.
+// Kept: document 01 asks for a reader that walks the records; a chain over `zip` would go past it.
 pub fn first_bad_from(r: Reader, names: u64) -> Option<usize>
     ensures { result ≡ placed (bad_from names r.entry) }
 {
@@ -236,6 +238,7 @@ pub fn first_bad_from(r: Reader, names: u64) -> Option<usize>
 }
 
 // Refusals 4 and 8: the first record whose kind is unknown or whose word is out of range. It makes a reader, and walks by it.
+// Kept: kinds and words are two parameters, since C lends them so and one may be longer than the other.
 pub fn first_bad(kinds: &[u8], words: &[u64], names: u64) -> Option<usize>
     ensures { result ≡ placed (bad_record names 0 kinds.now words.now) }
 {

@@ -12,9 +12,6 @@ use Shape::{Each, Parts};
 use Sort::{Declaration, Equation, Expression, FieldValue, Name, Node, Package, Port, Type};
 use lustre::kinds;
 
-// The first binary operator.
-const AND: u8 = kinds::MINUS + 1;
-
 // What a kind's word is.
 #[derive(Clone, Copy, PartialEq, Eq)]
 pub enum WordClass {
@@ -120,7 +117,7 @@ fn shape_of_expression(kind: u8) -> Option<Shape>
         | kinds::FIELD
         | kinds::WHEN_TRUE
         | kinds::WHEN_FALSE => Some(Parts(&[One(Expression)])),
-        AND..=kinds::SHIFT_RIGHT | kinds::ARROW | kinds::INDEX | kinds::MERGE => {
+        kinds::AND..=kinds::SHIFT_RIGHT | kinds::ARROW | kinds::INDEX | kinds::MERGE => {
             Some(Parts(&[One(Expression), One(Expression)]))
         }
         kinds::IF => Some(Parts(&[One(Expression), One(Expression), One(Expression)])),

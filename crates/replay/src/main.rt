@@ -3,16 +3,12 @@
 // tests/replay/make makes that file and says what it holds. It stops at the first model that does not fit its buffers.
 #![tactic(auto)]
 
-use cases::{LINES, Stop, read_lines, read_part, read_size, read_word};
-use lustre::{Answer, Line};
+use cases::{Stop, read_lines, read_part, read_size, read_word};
+use format::FILE;
+use lustre::{Answer, LINES, Line};
+use response::WORK;
 use std::io;
 use std::io::Read;
-
-// The longest file that is not refusal 1: 8 bytes, 9 for each of 4,096 records, and 16,384 of text.
-const FILE: usize = 53256;
-
-// The work words that document 01's program lends.
-const WORK: usize = 4096;
 
 // The most models that are read.
 const MOST: u64 = 100000;
@@ -41,14 +37,14 @@ fn main(rt: HostRuntime) -> io::Result<()> {
     let mut reader = rt.reader();
     let mut models = 0u64;
     let mut agree = 0u64;
-    for number in 0..MOST {
+    for _ in 0..MOST {
         match replay(&mut reader) {
             Ok(true) => agree += 1,
-            Ok(false) => println!(rt; "model {number} differs")?,
+            Ok(false) => println!(rt; "model {models} differs")?,
             Err(Stop::Ended) => break,
             Err(Stop::Failed(e)) => return Err(e),
         }
-        models = number + 1;
+        models += 1;
     }
     println!(rt; "{models} models, {agree} agree")
 }

@@ -11,15 +11,15 @@ ghost use Rattle.response.specs.Response.{any_error, status_of, Answered, Respon
 
 use checker::check_project;
 use format::output::{render_answer, render_line};
-use format::{RECORDS, decode, kinds_in, text_in};
+use format::{decode, kinds_in, text_in};
 use lustre::codes::W0051;
-use lustre::{Answer, Line, Numbers, Refusal};
+use lustre::{Answer, LINES, Line, MAX_RECORDS, MIN_WORK, Refusal};
 
-// The work words that the program lends.
-const WORK: usize = 4096;
+// The work words that the program lends: the fewest that may be lent.
+pub const WORK: usize = MIN_WORK;
 
-// The lines that it lends.
-const LINES: usize = 1024;
+// Room for all that it prints: a header of at most 57 bytes and its lines of at most 171.
+pub const OUT: usize = 57 + 171 * LINES;
 
 // The status of a run, by the digit that the program gives: a report without an error, one with an error, and a refusal.
 #[derive(Clone, Copy, PartialEq, Eq)]
@@ -40,7 +40,7 @@ pub struct Response {
 pub fn answer_to(file: &[u8], work: &mut [u64], lines: &mut [Line]) -> Answer
     ensures { Answered file.now work.old lines.old result work.new lines.new }
 {
-    let mut words = [0u64; RECORDS];
+    let mut words = [0u64; MAX_RECORDS];
     match decode(file, &mut words) {
         Some(sizes) => {
             let words = &words[..sizes.records];
@@ -98,12 +98,10 @@ fn has_error(lines: &[Line]) -> bool
 fn status_of(a: Answer, lines: &[Line]) -> Status
     ensures { result ≡ status_of a lines.now }
 {
-    if Numbers::from(a).refusal != 0 {
-        Status::Refused
-    } else if has_error(printed(a, lines)) {
-        Status::Errors
-    } else {
-        Status::Clean
+    match a {
+        Answer::Report(..) if has_error(printed(a, lines)) => Status::Errors,
+        Answer::Report(..) => Status::Clean,
+        Answer::Refused(_) | Answer::MoreLines(_) => Status::Refused,
     }
 }
 

@@ -5,24 +5,36 @@ use native.Mathlib.Omega.{arith}
 use mathlib.Core.Path.{◌≡◌, refl, sym, ◌∙◌}
 use mathlib.Core.Bool.{true, false, ◌&&◌, and-true, and_assoc}
 use mathlib.Core.List.{List, [], ◌∷◌, ◌++◌}
+use mathlib.Core.Logic.{⊎_elim}
 use lib.Dec.{eqb}
 use lib.ListN.{length, drop}
 use borrow.Author.Tests.{eq-eqb}
 use Rattle.std.specs.Prelude as code
-use Rattle.std.specs.Prelude.{Some, None, MatchOption, unwrap_or}
-use Rattle.lustre.specs.Types.{Ty}
+use Rattle.std.specs.Prelude.{Some, None, MatchOption, IsSomeAnd, unwrap_or}
+use Rattle.lustre.specs.Types.{Ty, same_type}
 use Rattle.lustre.specs.Project.{Port, NodeKind, Function, Operator, Imported, is_function}
 use Rattle.lustre.specs.Grammar.{node_kind}
 use Rattle.lustre.specs.Line.{Note, plain, return, fail, require}
-use Rattle.lustre.specs.Resolve.{Scope}
-use Rattle.lustre.specs.Infer.{agrees, one_output, two_inputs, all_long, same_lengths, first_length, inputs_agree, element_rule}
+use Rattle.lustre.specs.Resolve.{Scope, resolve, compatible}
+use Rattle.lustre.specs.Infer.{agrees, one_output, two_inputs, all_long, same_lengths, first_length, inputs_agree, seed_agrees, element_rule}
+use Rattle.demands.proofs.Sets.{split}
 use Rattle.types.specs.Value.{Naming, asTy}
+use Rattle.types.specs.Number.{asHint}
 use Rattle.types.specs.declared.Typ.{Typ}
+use Rattle.types.proofs.Values.{type_same}
 use Rattle.rules.specs.Flags.{First, Flags, Beside, type_fits}
 use Rattle.rules.specs.declared.iterators.Array.{Array}
 use Rattle.rules.specs.declared.iterators.Kept.{Kept}
 
 -- ---- what is kept
+
+-- types agree either way round
+agrees_swap : (Γ : Scope) (a b : Ty) → agrees Γ a b ≡ agrees Γ b a
+unfolding compatible
+agrees_swap Γ a b = go (resolve Γ.alias a) (resolve Γ.alias b)
+  where
+    go : (s t : Ty) → same_type s t ≡ same_type t s
+    go s t = ⊎_elim (λ e. rw (type_same s t e) refl) (λ e. ⊎_elim (λ f. rw (type_same t s f) refl) (λ f. e ∙ sym f) (split (same_type t s))) (split (same_type s t))
 
 -- no array yet
 pub none_agree : (Γ : Scope) (ps : List Port) → inputs_agree Γ ps [] ≡ true
@@ -44,18 +56,18 @@ long_more n (d ∷ ds) x = rw (long_more n ds x) (sym (and_assoc (eqb d.0 n) (al
 
 module _ (Γ : Scope) (ρ : Naming) where
   agree_more : (ps : List Port) (ds : List (ℕ × Ty)) (x : ℕ × Ty) (w : code.Option Typ) → Beside ρ (drop (length ds) ps) w
-      → inputs_agree Γ ps (ds ++ (x ∷ [])) ≡ (inputs_agree Γ ps ds && type_fits Γ ρ w x.1)
+      → inputs_agree Γ ps (ds ++ (x ∷ [])) ≡ (inputs_agree Γ ps ds && type_fits Γ ρ x.1 w)
   unfolding inputs_agree
   agree_more [] [] x w h = rw h
   agree_more [] (d ∷ ds) x w h = rw h
   agree_more (p ∷ ps) [] x None h = absurd h
-  agree_more (p ∷ ps) [] x (Some w) h = rw (h, none_agree Γ ps) (and-true (agrees Γ p.1 x.1))
-  agree_more (p ∷ ps) (d ∷ ds) x w h = rw (agree_more ps ds x w h) (sym (and_assoc (agrees Γ p.1 d.1) (inputs_agree Γ ps ds) (type_fits Γ ρ w x.1)))
+  agree_more (p ∷ ps) [] x (Some w) h = rw (h, none_agree Γ ps) (and-true (agrees Γ p.1 x.1) ∙ agrees_swap Γ p.1 x.1)
+  agree_more (p ∷ ps) (d ∷ ds) x w h = rw (agree_more ps ds x w h) (sym (and_assoc (agrees Γ p.1 d.1) (inputs_agree Γ ps ds) (type_fits Γ ρ x.1 w)))
 
   -- one array more
   pub kept_more : (ds : List (ℕ × Ty)) (ps : List Port) {s r : Kept} (w : code.Option Typ) (x : Array) (n : ℕ × Ty) → Flags Γ ρ ds ps s → Beside ρ (drop (length ds) ps) w
       → x.len ≡ n.0 → asTy ρ x.element ≡ n.1 → r.first ≡ Some (unwrap_or s.first x)
-      → r.even ≡ (s.even && eqb x.len (unwrap_or s.first x).len) → r.agree ≡ (s.agree && type_fits Γ ρ w (asTy ρ x.element)) → Flags Γ ρ (ds ++ (n ∷ [])) ps r
+      → r.even ≡ (s.even && eqb x.len (unwrap_or s.first x).len) → r.agree ≡ (s.agree && type_fits Γ ρ (asTy ρ x.element) w) → Flags Γ ρ (ds ++ (n ∷ [])) ps r
   unfolding same_lengths all_long
   kept_more [] ps {s} {r} w x n f b l t rf re ra = record {
     first = rw (rf, f.first) (l, t);
@@ -72,17 +84,21 @@ module _ (Γ : Scope) (ρ : Naming) where
         agree = ra ∙ rw (f.agree, t) (sym (agree_more ps (d ∷ ds) n w b));
       }
 
--- the test of the first array's elements
-module _ (Γ : Scope) (at : ℕ) (want : Ty) (ρ : Naming) where
-  pub elements_none : (ds : List (ℕ × Ty)) → First ρ ds None → element_rule Γ at want ds ≡ return tt
-  unfolding element_rule
-  elements_none [] f = refl
-  elements_none (d ∷ ds) f = absurd f
+-- the tests of a seed's type and of the first array's elements
+module _ (Γ : Scope) (ρ : Naming) (at : ℕ) (want : Ty) where
+  pub seed_fits : (o : code.Option Typ) → seed_agrees Γ at want (asHint ρ o) ≡ require (type_fits Γ ρ want o) (plain at 145)
+  unfolding seed_agrees require return
+  seed_fits None = refl
+  seed_fits (Some t) = refl
 
-  pub elements_some : (ds : List (ℕ × Ty)) (a : Array) → First ρ ds (Some a) → element_rule Γ at want ds ≡ require (agrees Γ want (asTy ρ a.element)) (plain at 145)
-  unfolding element_rule
-  elements_some [] a f = cc
-  elements_some (d ∷ ds) a f = rw f.1
+  pub elements_fit : (ds : List (ℕ × Ty)) (a : code.Option Array) (e : code.Option Typ) → First ρ ds a → MatchOption a (e ≡ None) (λ x. IsSomeAnd e (λ t. t ≡ x.element))
+      → element_rule Γ at want ds ≡ require (type_fits Γ ρ want e) (plain at 145)
+  unfolding element_rule require return
+  elements_fit [] None e f m = rw m refl
+  elements_fit [] (Some x) e f m = cc
+  elements_fit (d ∷ ds) None e f m = absurd f
+  elements_fit (d ∷ ds) (Some x) None f m = absurd m
+  elements_fit (d ∷ ds) (Some x) (Some t) f m = rw (m, f.1) refl
 
 -- ---- the function
 

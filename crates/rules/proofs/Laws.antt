@@ -20,12 +20,12 @@ use Rattle.lines.specs.Lines.{Said}
 use Rattle.lines.specs.declared.Lines.{Lines}
 use Rattle.lines.specs.declared.Spot.{Spot}
 use Rattle.lines.proofs.Laws.{noted_plain, noted_named, said_return, said_pass, said_fail, said_refuse, said_stop, said_go, said_halt, said_then}
-use Rattle.types.specs.Value.{Naming, Injective, bottom, asTy, Known, Bottom}
+use Rattle.types.specs.Value.{Naming, Injective, bottom, asTy, Bottom}
 use Rattle.types.specs.Scope.{Compares, Resolves, KindOf, kind_of}
 use Rattle.types.specs.declared.Typ.{Typ}
 use Rattle.rules.specs.World.{World, Listed, Found, absent, present, PortsHere}
 use Rattle.rules.specs.Post.{Done, Concludes, Failed, TypeIs}
-use Rattle.rules.specs.declared.Typed as found_as
+use Rattle.types.specs.declared.Typed as found_as
 
 pub false_true {ℓ} : {A : Type ℓ} → false ≡ true → A
 false_true h = absurd (let z : ◌≡◌ {A = ℕ} 0 1 = cc in omega arith)
@@ -52,19 +52,19 @@ module _ {ks ws sc : List ℕ} (W : World ks ws sc) where
 module _ {num : Name → ℕ} {ρ : Naming} {q : Spot} {l : Lines} where
   -- no type
   pub ended : {s : Out Ty} {high : ℕ} {r : code.Option Typ} {l' : Lines} → r ≡ None → Said num q s none l l' → Concludes num ρ q s high l r l'
-  ended h d = rw h (record { said = d; low = tt; known = tt })
+  ended h d = rw h (record { said = d; low = tt })
 
   -- a type, and nothing more
-  pub returned : {s : Out Ty} {high : ℕ} (t : Typ) → t.levels ≤ high → Known t → s ≡ return (asTy ρ t) → Concludes num ρ q s high l (Some t) l
-  returned t n k h = record { said = rw h (said_return (asTy ρ t)); low = n; known = k }
+  pub returned : {s : Out Ty} {high : ℕ} (t : Typ) → t.levels ≤ high → s ≡ return (asTy ρ t) → Concludes num ρ q s high l (Some t) l
+  returned t n h = record { said = rw h (said_return (asTy ρ t)); low = n }
 
   -- the same of a type that is known by what it is
   pub gave : {s : Out Ty} {u : Ty} {high : ℕ} {t : Typ} → TypeIs ρ u high t → s ≡ return u → Concludes num ρ q s high l (Some t) l
-  gave {t = t} g h = returned t g.low g.known (h ∙ ap return (sym g.is))
+  gave {t = t} g h = returned t g.low (h ∙ ap return (sym g.is))
 
-  -- a type with no lengths and no name
-  pub returned_basic : {s : Out Ty} {high k n : ℕ} {t : Typ} → Bottom k n t → (k ≡ 33 → ⊥) → s ≡ return (bottom ρ k n) → Concludes num ρ q s high l (Some t) l
-  returned_basic b e h = returned _ (omega (arith, b.flat)) (λ z. absurd (e (sym b.base ∙ z))) (h ∙ ap return (sym (b.is ρ)))
+  -- a type with no lengths
+  pub returned_bottom : {s : Out Ty} {high k n : ℕ} {t : Typ} → Bottom k n t → s ≡ return (bottom ρ k n) → Concludes num ρ q s high l (Some t) l
+  returned_bottom b h = returned _ (omega (arith, b.flat)) (h ∙ ap return (sym (b.is ρ)))
 
   module _ {high c at : ℕ} {r : code.Option Typ} {l' : Lines} where
     -- a line, and no type
@@ -81,11 +81,11 @@ module _ {num : Name → ℕ} {ρ : Naming} {q : Spot} {l : Lines} where
   module _ {high : ℕ} {r : code.Option Typ} {l' : Lines} where
     -- something said before whose value is used
     pub with : {A : Type 0} {s : Out A} (k : A → Out Ty) (a : A) {l₁ : Lines} → Said num q s (some a) l l₁ → Concludes num ρ q (k a) high l₁ r l' → Concludes num ρ q (s >>= k) high l r l'
-    with k a p f = record { said = said_go k a refl p f.said; low = f.low; known = f.known }
+    with k a p f = record { said = said_go k a refl p f.said; low = f.low }
 
     -- something said before
     pub after : {A : Type 0} {s : Out A} {k : Out Ty} {a : A} {l₁ : Lines} → Said num q s (some a) l l₁ → Concludes num ρ q k high l₁ r l' → Concludes num ρ q (s >> k) high l r l'
-    after {a = a} p f = record { said = said_then a refl p f.said; low = f.low; known = f.known }
+    after {a = a} p f = record { said = said_then a refl p f.said; low = f.low }
 
     -- a test that passes
     pub passed : {b : Bool} {k : Out Ty} (x : Note) → b ≡ true → Concludes num ρ q k high l r l' → Concludes num ρ q (require b x >> k) high l r l'
@@ -93,7 +93,7 @@ module _ {num : Name → ℕ} {ρ : Naming} {q : Spot} {l : Lines} where
 
     -- a weaker bound
     pub weaker : {s : Out Ty} {least : ℕ} → least ≤ high → Concludes num ρ q s least l r l' → Concludes num ρ q s high l r l'
-    weaker e d = record { said = d.said; low = IfSome_then r d.low (λ t n. omega (arith, n)); known = d.known }
+    weaker e d = record { said = d.said; low = IfSome_then r d.low (λ t n. omega (arith, n)) }
 
     -- a part with a type
     pub go : {s : Out Ty} (k : Ty → Out Ty) {end₁ high₁ : ℕ} {l₁ : Lines} {p : found_as.Typed}
@@ -106,15 +106,15 @@ module _ {num : Name → ℕ} {ρ : Naming} {q : Spot} {l : Lines} where
 
   -- what a rule gives, with the place behind the expression
   pub closed : {s : Out Ty} {end high next : ℕ} {t : Typ} {l' : Lines} → Concludes num ρ q s high l (Some t) l' → next ≡ end → Done num ρ q s end high l (Some (record { typ = t; next = next })) l'
-  closed d e = record { said = d.said; low = d.low; known = d.known; next = e }
+  closed d e = record { said = d.said; low = d.low; next = e }
 
   pub closed_none : {s : Out Ty} {end high : ℕ} {l' : Lines} → Concludes num ρ q s high l None l' → Done num ρ q s end high l None l'
-  closed_none d = record { said = d.said; low = tt; known = tt; next = tt }
+  closed_none d = record { said = d.said; low = tt; next = tt }
 
   module _ {s : Out Ty} {end high : ℕ} {r : code.Option found_as.Typed} {l' : Lines} where
     -- a weaker bound, and another name for the end
     pub lower : {high₁ : ℕ} → high₁ ≤ high → Done num ρ q s end high₁ l r l' → Done num ρ q s end high l r l'
-    lower e d = record { said = d.said; low = IfSome_then r d.low (λ t n. omega (arith, n)); known = d.known; next = d.next }
+    lower e d = record { said = d.said; low = IfSome_then r d.low (λ t n. omega (arith, n)); next = d.next }
 
     pub at_end : {end₁ : ℕ} → end₁ ≡ end → Done num ρ q s end₁ high l r l' → Done num ρ q s end high l r l'
     at_end e d = rw e at d

@@ -84,7 +84,7 @@ module _ {S : Source} {t : Ty} {at : ℕ} (g : Typed S t at) where
   module _ {r : Typ} {next : ℕ} (d : Read S.ks S.ws at r next) where
     -- and what it gives
     pub read_is : TypeIs S.text t 67 r
-    read_is = record { is = d.is S.text ∙ type_is; low = d.few; known = d.known }
+    read_is = record { is = d.is S.text ∙ type_is; low = d.few }
 
     pub read_next : next ≡ at + levels t
     read_next = d.after S.text ∙ ap (λ (u : Ty). at + levels u) type_is

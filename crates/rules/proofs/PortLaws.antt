@@ -1,7 +1,7 @@
--- Lists of ports one by one: what the loops over them keep, and what stands in a list of known length.
+-- Lists of ports one by one: the first port of a name, and what stands in a list of known length.
 -- Assumes nothing.
 use Rattle.std.specs.Prelude.{if◌then◌else◌}
-use Prim.Native.Nat.{ℕ, ◌+◌, ◌-◌, ◌<◌}
+use Prim.Native.Nat.{ℕ, ◌+◌}
 use native.Mathlib.Omega.{arith}
 use mathlib.Core.Path.{◌≡◌, refl, sym, ap, ◌∙◌}
 use mathlib.Core.Bool.{Bool, true, false}
@@ -24,7 +24,8 @@ use Rattle.lines.proofs.Laws.{noted_none}
 use Rattle.types.specs.Value.{Naming, Injective}
 use Rattle.types.proofs.Truths.{not_so}
 use Rattle.demands.proofs.Orders.{is_test}
-use Rattle.rules.specs.World.{Typed, Listed, HeadingAt, TypeHere, PortsHere}
+use Rattle.rules.specs.World.{Typed, Listed, HeadingAt, PortsHere}
+use Rattle.rules.specs.Walk as walk
 
 -- ---- ports one by one
 
@@ -57,50 +58,6 @@ first_port S (p ∷ ps) at n c h s f =
       fewer = omega arith;
     }
 
--- the ports that are left of a list behind those that were passed, and where they end
-pub record Left (ks ws : List ℕ) (at next passed : ℕ) (g : PortsHere ks ws at) : Type 0 where
-  pub rest : List Port
-  pub stand : EachAt (PortAt (source ks ws g.text)) port_size rest next
-  pub few : ShallowPorts rest
-  pub many : passed + length rest ≡ get_or ws at 0
-  pub ends : next + sizes_of port_size rest ≡ at + ports_size g.ps
-
-abbrev pub left_start : {ks ws : List ℕ} {at : ℕ} (g : PortsHere ks ws at) → Left ks ws at (at + 1) 0 g
-left_start g = record { rest = g.ps; stand = g.listed.stand.items; few = g.listed.few; many = omega (arith, g.listed.stand.many); ends = omega arith }
-
-pub sizes_more : (ps : List Port) (p : Port) (others : List Port) → ps ≡ p ∷ others → sizes_of port_size ps ≡ 1 + levels p.1 + sizes_of port_size others
-unfolding sizes_of
-sizes_more ps p others q = rw q
-
-sizes_none : sizes_of port_size [] ≡ 0
-unfolding sizes_of
-sizes_none = refl
-
-module _ {ks ws : List ℕ} {at next passed : ℕ} {g : PortsHere ks ws at} (l : Left ks ws at next passed g) where
-  module _ (h : passed < get_or ws at 0) where
-    abbrev pub left_first : FirstPort (source ks ws g.text) l.rest next (get_or ws at 0 - passed)
-    left_first = first_port (source ks ws g.text) l.rest next (get_or ws at 0 - passed) (omega (arith, l.many)) (λ z. omega arith) l.stand l.few
-
-    -- its type, for `type_end`
-    abbrev pub left_type : TypeHere ks ws (next + 1)
-    left_type = record { text = g.text; t = left_first.p.1; typed = left_first.typed }
-
-    abbrev pub left_next : {e : ℕ} → e ≡ next + 1 + levels left_first.p.1 → Left ks ws at e (passed + 1) g
-    left_next {e} q = record {
-      rest = left_first.others;
-      stand = rw q left_first.stand;
-      few = left_first.few;
-      many = omega (arith, left_first.fewer, l.many);
-      ends = omega (arith, l.ends, sizes_more l.rest left_first.p left_first.others left_first.are);
-    }
-
-  module _ (z : passed ≡ get_or ws at 0) where
-    pub left_none : l.rest ≡ []
-    left_none = no_items l.rest (omega (arith, l.many))
-
-    pub left_end : next ≡ at + ports_size g.ps
-    left_end = omega (arith, l.ends, ap (sizes_of port_size) left_none, sizes_none)
-
 -- ---- the first port of a name
 
 module _ (S : Source) (apart : Injective S.text) (name : ℕ) where
@@ -111,7 +68,7 @@ module _ (S : Source) (apart : Injective S.text) (name : ℕ) where
   other_name : (at : ℕ) (x : Name) → NameAt S at x → (word S at ≡ name → ⊥) → (S.text name is x) ≡ false
   other_name at x n h = not_so (S.text name is x) (λ q. h (apart (word S at) name (n.text ∙ sym (is_test.same (S.text name) x q))))
 
-  module _ {ps : List Port} {at n : ℕ} (f : FirstPort S ps at n) where
+  module _ {ps : List Port} {at next left : ℕ} (f : walk.FirstPort S ps at next left) where
     pub find_here : word S at ≡ name → find (S.text name) ps ≡ some f.p.1
     unfolding find
     find_here e = rw (f.are, same_name at f.p.0 f.name e)

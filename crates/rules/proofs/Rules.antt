@@ -15,7 +15,7 @@ use Rattle.lustre.specs.Project.{Port}
 use Rattle.lustre.specs.Line.{Note, plain, named, return, fail}
 use Rattle.lustre.specs.Resolve.{Scope}
 use Rattle.lustre.specs.Infer.{if_found, literal_rule, var_rule, field_of, array_type, element_of}
-use Rattle.types.specs.Value.{Naming, asTy, Known, ArrayOf}
+use Rattle.types.specs.Value.{Naming, asTy}
 use Rattle.types.specs.Number.{KindIs}
 use Rattle.types.specs.declared.Typ.{Typ}
 use Rattle.types.proofs.Values.{bottom_cases, bottom_basic, bottom_name, view_flat, view_array}
@@ -29,10 +29,6 @@ module _ (ρ : Naming) (t : Typ) where
 
   pub is_named : t.levels ≡ 0 → t.base ≡ 33 → asTy ρ t ≡ Named (ρ t.name)
   is_named z h = view_flat ρ t z ∙ bottom_name ρ t.base t.name h
-
--- the element of a known type is known
-pub element_known : {n : ℕ} {e t : Typ} → ArrayOf n e t → Known t → Known e
-element_known a k h = omega (arith, k (a.base ∙ h), a.name)
 
 -- a type with no lengths is no array
 flat_case : (ρ : Naming) (t : Typ) (P : Ty → Type 0) → t.levels ≡ 0 → ((b : ℕ) → P (basic b)) → ((x : Name) → P (Named x)) → ((n : ℕ) → P (Tuple n)) → P (asTy ρ t)

@@ -1,16 +1,14 @@
 -- Struct values: the name that is meant, the fields that are missing, and the names that are given.
 -- Assumes nothing.
-use Rattle.std.specs.Prelude.{if◌then◌else◌}
-use Prim.Native.Nat.{ℕ, ◌+◌, ◌<◌}
+use Rattle.std.specs.Prelude.{if◌then◌else◌, Some, None}
+use Prim.Native.Nat.{ℕ}
 use native.Mathlib.Decide.{ℕ_discrete}
 use mathlib.Core.Path.{◌≡◌, refl, sym, ap, ◌∙◌}
 use mathlib.Core.List.{List, [], ◌∷◌, ◌++◌}
 use mathlib.Core.Bool.{Bool, true, false, ◌||◌, or-true, or-false}
 use lib.Dec.{eqb}
-use lib.ListN.{get_or}
 use borrow.Author.Tests.{eq-eqb, ne_eqb}
 use Rattle.lustre.specs.Name.{Name, ◌is◌, ◌among◌, mem}
-use Rattle.lustre.specs.Types.{levels}
 use Rattle.lustre.specs.Project.{Port}
 use Rattle.lustre.specs.Line.{named}
 use Rattle.lustre.specs.Resolve.{Scope}
@@ -26,10 +24,14 @@ use Rattle.types.proofs.Values.{bottom_cases, view_array, view_flat}
 use Rattle.types.proofs.Truths.{not_so}
 use Rattle.demands.proofs.Orders.{is_test}
 use Rattle.demands.proofs.Sets.{mem_eq, mem_ne, mem_snoc}
-use Rattle.rules.specs.World.{PortsHere}
+use Rattle.lustre.specs.declared.NameId.{NameId}
+use Rattle.lustre.specs.declared.Records.{Records}
+use Rattle.rules.specs.World.{PortsOf}
 use Rattle.rules.specs.Marks.{Marked}
+use Rattle.rules.specs.Walk.{Walked}
+use Rattle.rules.specs.declared.walk.Ports.{Ports}
 use Rattle.rules.proofs.Rules.{is_named}
-use Rattle.rules.proofs.PortLaws.{Left, left_start, left_first, left_next, left_none}
+use Rattle.rules.proofs.Walks.{Left, left_first, left_name, left_next, left_none}
 
 module _ (Γ : Scope) (x : Name) (ρ : Naming) (t : Typ) where
   pub name_array : (t.levels ≡ 0 → ⊥) → resolved_name Γ x (asTy ρ t) ≡ x
@@ -57,32 +59,28 @@ missing_more step ps p others xs e = rw e (go (p.0 among xs))
     go false = refl
 
 -- the notes on the fields that are left are all that is missing
-pub record Missed (ks ws : List ℕ) (list next passed : ℕ) (g : PortsHere ks ws list) (marks : List ℕ) (step : ℕ) (q : Spot) (l l' : Lines) : Type 0 where
-  pub ports : Left ks ws list next passed g
+pub record Missed (r : Records) {list : ℕ} (g : PortsOf r list) (w : Ports) (marks : List ℕ) (step : ℕ) (q : Spot) (l l' : Lines) : Type 0 where
+  pub ports : Left r g w
   pub rest : (num : Name → ℕ) → ((i : ℕ) → num (g.text i) ≡ i) → (xs : List Name) → Marked g.text xs marks → {l₁ : Lines}
       → Noted num q (missing step ports.rest xs) l' l₁ → Noted num q (missing step g.ps xs) l l₁
 
-pub missed_start : {ks ws : List ℕ} {list : ℕ} (g : PortsHere ks ws list) {marks : List ℕ} {step : ℕ} {q : Spot} {l : Lines} → Missed ks ws list (list + 1) 0 g marks step q l l
-missed_start g = record { ports = left_start g; rest = λ num b xs k d. d }
-
-module _ {ks ws : List ℕ} {list next passed : ℕ} {g : PortsHere ks ws list} {marks : List ℕ} {step : ℕ} {q : Spot} {l l' : Lines}
-    (m : Missed ks ws list next passed g marks step q l l') where
-  -- the field at `next` is given, or has its line
-  pub missed_next : (h : passed < get_or ws list 0) {l₁ : Lines} {e : ℕ}
-      → ((num : Name → ℕ) (x : Name) → num x ≡ get_or ws next 0 → Noted num q (if has marks 0 (get_or ws next 0) then [] else named step 128 x ∷ []) l' l₁)
-      → e ≡ next + 1 + levels (left_first m.ports h).p.1 → Missed ks ws list e (passed + 1) g marks step q l l₁
-  missed_next h d c = record {
-    ports = left_next m.ports h c;
+module _ {r : Records} {list : ℕ} {g : PortsOf r list} {w v : Ports} {marks : List ℕ} {step : ℕ} {q : Spot} {l l' : Lines} (m : Missed r g w marks step q l l') where
+  -- the next field is given, or has its line
+  pub missed_next : {p : NameId × ℕ} (d : Walked w (Some p) v) {l₁ : Lines}
+      → ((num : Name → ℕ) (x : Name) → num x ≡ p.0.number → Noted num q (if has marks 0 p.0.number then [] else named step 128 x ∷ []) l' l₁)
+      → Missed r g v marks step q l l₁
+  missed_next {p} d n = record {
+    ports = left_next m.ports d;
     rest = λ num b xs t s. m.rest num b xs t (
-        let f = left_first m.ports h in
-        let w : has marks 0 (get_or ws next 0) ≡ (f.p.0 among xs) = t (get_or ws next 0) f.name.small ∙ ap (λ (x : Name). x among xs) f.name.text in
-        rw (missing_more step m.ports.rest f.p f.others xs f.are, ← w)
-        (noted_append (d num f.p.0 (rw (← f.name.text) (b (get_or ws next 0)))) s));
+        let f = left_first m.ports d in
+        let e : g.text p.0.number ≡ f.p.0 = rw (left_name m.ports d) f.name.text in
+        let h : has marks 0 p.0.number ≡ (f.p.0 among xs) = t p.0.number p.0.below ∙ ap (λ (x : Name). x among xs) e in
+        rw (missing_more step m.ports.rest f.p f.others xs f.are, ← h) (noted_append (n num f.p.0 (rw (← e) (b p.0.number))) s));
   }
 
-  pub missed_end : passed ≡ get_or ws list 0 → (num : Name → ℕ) → ((i : ℕ) → num (g.text i) ≡ i) → (xs : List Name) → Marked g.text xs marks → Noted num q (missing step g.ps xs) l l'
+  pub missed_end : Walked w None v → (num : Name → ℕ) → ((i : ℕ) → num (g.text i) ≡ i) → (xs : List Name) → Marked g.text xs marks → Noted num q (missing step g.ps xs) l l'
   unfolding missing
-  missed_end z num b xs t = m.rest num b xs t (rw (left_none m.ports z) noted_none)
+  missed_end d num b xs t = m.rest num b xs t (rw (left_none m.ports d) noted_none)
 
 -- ---- the names that are given
 

@@ -1,14 +1,15 @@
 -- The ports of a list, one by one. Assumes nothing.
-use Rattle.std.specs.Prelude.{Some, None}
+use Rattle.std.specs.Prelude.{Option, Some, None, is_some}
 use Prim.Native.Nat.{ℕ, ◌+◌, ◌-◌, ◌<◌}
 use native.Mathlib.Omega.{arith}
 use mathlib.Core.Path.{◌≡◌, refl, sym, ap, ◌∙◌}
+use mathlib.Core.Bool.{true, false, true≢false}
 use mathlib.Core.List.{List, [], ◌∷◌}
 use lib.ListN.{length, get_or}
 use Rattle.lustre.specs.Types.{levels}
 use Rattle.lustre.specs.Project.{Port}
-use Rattle.standing.specs.Standing.{Source, word, RecAt, EachAt, sizes_of, port_size, ports_size}
-use Rattle.standing.proofs.Sizes.{no_items}
+use Rattle.standing.specs.Standing.{Source, word, RecAt, NameAt, EachAt, sizes_of, port_size, ports_size}
+use Rattle.lustre.specs.declared.NameId.{NameId}
 use Rattle.lustre.specs.declared.Records.{Records}
 use Rattle.rules.specs.World.{Typed, PortsOf, source_of}
 use Rattle.rules.specs.Walk.{PortsLeft, FirstPort, Walking, Walked}
@@ -19,6 +20,7 @@ use Rattle.rules.specs.declared.walk.Ports.{Ports}
 pub record Ahead (S : Source) (ps : List Port) (at left : ℕ) : Type 0 where
   pub p : Port
   pub head : RecAt S at 7
+  pub name : NameAt S at p.0
   pub typed : Typed S p.1 (at + 1)
   pub step : (next : ℕ) → next ≡ at + 1 + levels p.1 → FirstPort S ps at next (left - 1)
 
@@ -31,6 +33,7 @@ ahead {S} (p ∷ ps) {at} h l =
     record {
       p = p;
       head = l.stand.0.head;
+      name = l.stand.0.name;
       typed = t;
       step = λ next e. record {
         p = p;
@@ -54,20 +57,20 @@ sizes_none = refl
 
 -- what is left of a walk over the list g of the records r
 pub record Left (r : Records) {list : ℕ} (g : PortsOf r list) (w : Ports) : Type 0 where
-  pub records : w.records.now ≡ r
+  pub records : w.records ≡ r
   pub rest : List Port
   pub left : PortsLeft (source_of r g.text) rest w.at w.left
   pub ends : w.at + sizes_of port_size rest ≡ list + ports_size g.ps
 
 -- at its start
-abbrev pub left_start : (r : Records) {list : ℕ} (g : PortsOf r list) {w : Ports} → (w.records.now ≡ r) × (w.at ≡ list + 1) × (w.left ≡ get_or r.words.now list 0) → Left r g w
+abbrev pub left_start : (r : Records) {list : ℕ} (g : PortsOf r list) {w : Ports} → (w.records ≡ r) × (w.at ≡ list + 1) × (w.left ≡ get_or r.words.now list 0) → Left r g w
 left_start r {list} g {w} e =
     let l : PortsLeft (source_of r g.text) g.ps (list + 1) (get_or r.words.now list 0) =
     record { stand = g.listed.stand.items; few = g.listed.few; many = sym g.listed.stand.many } in
     record { records = e.0; rest = g.ps; left = rw (e.1, e.2) l; ends = omega (arith, e.1) }
 
 module _ {r : Records} {list : ℕ} {g : PortsOf r list} {w v : Ports} (l : Left r g w) where
-  module _ {p : ℕ × ℕ} (d : Walked w (Some p) v) where
+  module _ {p : NameId × ℕ} (d : Walked w (Some p) v) where
     -- the first port that is left
     abbrev pub left_first : FirstPort (source_of r g.text) l.rest w.at v.at v.left
     left_first = rw l.records at (d.gave.2 g.text l.rest (rw l.records l.left))
@@ -76,7 +79,7 @@ module _ {r : Records} {list : ℕ} {g : PortsOf r list} {w v : Ports} (l : Left
     pub left_place : p.1 ≡ w.at
     left_place = d.gave.0
 
-    pub left_name : p.0 ≡ word (source_of r g.text) w.at
+    pub left_name : p.0.number ≡ word (source_of r g.text) w.at
     left_name = rw l.records at d.gave.1
 
     -- the others
@@ -90,13 +93,27 @@ module _ {r : Records} {list : ℕ} {g : PortsOf r list} {w v : Ports} (l : Left
 
   module _ (d : Walked w None v) where
     pub left_none : l.rest ≡ []
-    left_none = d.gave.1 g.text l.rest (rw l.records l.left)
+    left_none = d.gave.2 g.text l.rest (rw l.records l.left)
 
     pub left_end : v.at ≡ list + ports_size g.ps
     left_end = d.gave.0 ∙ omega (arith, l.ends, ap (sizes_of port_size) left_none, sizes_none)
 
+    -- nor is any later
+    abbrev pub left_over : Left r g v
+    left_over = record { records = d.records ∙ l.records; rest = l.rest; left = rw (d.gave.0, d.gave.1) l.left; ends = omega (arith, l.ends, d.gave.0) }
+
+-- the next call gave a port, or none
+module _ {r : Records} {list : ℕ} {g : PortsOf r list} {w v : Ports} (l : Left r g w) where
+  pub left_on : (o : Option (NameId × ℕ)) → is_some o ≡ true → Walked w o v → Left r g v
+  left_on None h d = absurd (true≢false (sym h))
+  left_on (Some p) h d = left_next l d
+
+  pub left_stop : (o : Option (NameId × ℕ)) → is_some o ≡ false → Walked w o v → v.at ≡ list + ports_size g.ps
+  left_stop None h d = left_end l d
+  left_stop (Some p) h d = absurd (true≢false h)
+
 -- the name and the place that a walk gives are in bounds
-pub walked_bounds : {w v : Ports} {p : ℕ × ℕ} → Walking w → Walked w (Some p) v → (p.0 < 512) × (p.1 < length w.records.now.kinds.now)
-walked_bounds {w} g d =
+pub walked_bounds : {w v : Ports} {p : NameId × ℕ} → Walking w → Walked w (Some p) v → (p.0.number < 512) × (p.1 < length w.records.kinds.now)
+walked_bounds {w} {p = p} g d =
     let f = d.gave.2 g.text g.ps g.left in
-    (rw d.gave.1 f.name.small, omega (arith, type_in f.typed, d.gave.0))
+    (p.0.below, omega (arith, type_in f.typed, d.gave.0))

@@ -27,7 +27,7 @@ abbrev pub Beside : Naming → List Port → code.Option Typ → Type 0
 Beside ρ [] w = w ≡ None
 Beside ρ (p ∷ ps) w = MatchOption w ⊥ (λ t. asTy ρ t ≡ p.1)
 
--- a type is the one wanted, if one is
-abbrev pub type_fits : Scope → Naming → code.Option Typ → Ty → Bool
-type_fits Γ ρ None t = true
-type_fits Γ ρ (Some w) t = agrees Γ (asTy ρ w) t
+-- the type t agrees with another, if there is one
+abbrev pub type_fits : Scope → Naming → Ty → code.Option Typ → Bool
+type_fits Γ ρ t None = true
+type_fits Γ ρ t (Some o) = agrees Γ t (asTy ρ o)

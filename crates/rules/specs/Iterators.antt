@@ -1,4 +1,4 @@
--- The pieces of `infer_iterator_type`, lib.rs 1233: the iterated function, its inputs one by one beside the arrays, and a fold's tests.
+-- The pieces of `infer_iterator_type`, lib.rs 1233: the iterated function, its arrays one by one, and a fold's tests.
 -- Assumes nothing: these are definitions.
 use Rattle.std.specs.Prelude as code
 use Rattle.std.specs.Prelude.{ℕ, ◌-◌, ◌<◌, ◌≤◌, ◌≡◌, true, List, [], ◌∷◌, ◌++◌, length, drop, Some, None, IfSome, MatchOption, option_map}
@@ -10,17 +10,14 @@ use Rattle.lustre.specs.Project.{Port, Heading, is_function}
 use Rattle.lustre.specs.Line.{Out, plain, return, ◌>>◌}
 use Rattle.lustre.specs.Resolve.{Scope}
 use Rattle.lustre.specs.Infer.{Typing, res, agrees, array_type, seed_agrees, element_rule, iterate_as, iterate_rule}
-use Rattle.lustre.specs.declared.Records.{Records}
-use Rattle.input.specs.Depths.{ShallowPorts}
-use Rattle.standing.specs.Standing.{source, EachAt, PortAt, port_size}
+use Rattle.standing.specs.Standing.{source}
 use Rattle.lines.specs.Lines.{Said}
 use Rattle.lines.specs.declared.Lines.{Lines}
 use Rattle.lines.specs.declared.Spot.{Spot}
-use Rattle.types.specs.Value.{Naming, asTy, Known}
-use Rattle.types.specs.declared.records.TypeRead.{TypeRead}
-use Rattle.rules.specs.World.{World, Listed, source_of}
+use Rattle.types.specs.Value.{asTy}
+use Rattle.rules.specs.World.{World, Listed}
 use Rattle.rules.specs.Post.{value_if}
-use Rattle.rules.specs.Flags.{Flags, Beside}
+use Rattle.rules.specs.Flags.{Flags}
 use Rattle.rules.specs.declared.iterators.Kept.{Kept}
 use Rattle.rules.specs.declared.iterators.Callee.{Callee}
 use Rattle.rules.specs.declared.iterators.FoldInputs.{FoldInputs}
@@ -34,7 +31,6 @@ pub record Function {ks ws sc : List ℕ} (W : World ks ws sc) (name : ℕ) (l :
   pub outputs : sig.outputs ≡ (output, asTy W.text c.result) ∷ []
   pub inputs : Listed (source ks ws W.text) sig.inputs c.inputs
   pub low : c.result.levels ≤ 67
-  pub known : Known c.result
   pub same : l' ≡ l
 
 -- what `iterated` answers: if there is no function, what the whole iterator says has been said
@@ -43,32 +39,6 @@ Iterated W at name q l r l' =
     MatchOption r
     ((k : IterKind) (seed : Option Typing) (operands : List Typing) (hint : Option Ty) → Said W.number q (iterate_rule W.Γ at k (W.text name) seed operands hint) none l l')
     (λ c. Function W name l c l')
-
--- so many inputs stand at a place
-pub record InputsHere (ks ws : List ℕ) (at left : ℕ) : Type 0 where
-  pub text : Naming
-  pub ps : List Port
-  pub stand : EachAt (PortAt (source ks ws text)) port_size ps at
-  pub few : ShallowPorts ps
-  pub many : length ps ≡ left
-
--- the same of records
-abbrev pub InputsOf : Records → ℕ → ℕ → Type 0
-InputsOf r at left = InputsHere r.kinds.now r.words.now at left
-
--- the place behind the first input, if there is one
-abbrev pub after : ℕ → code.Option TypeRead → ℕ
-after at None = at
-after at (Some i) = i.next
-
--- the first of them, if there is one, and the others
-pub record NextInput (side : Records) (at left : ℕ) (g : InputsOf side at left) (r : code.Option TypeRead) : Type 0 where
-  pub beside : Beside g.text g.ps (option_map (λ i. i.typ) r)
-  pub low : IfSome r (λ i. i.typ.levels ≤ 67)
-  pub stand : EachAt (PortAt (source_of side g.text)) port_size (drop 1 g.ps) (after at r)
-  pub few : ShallowPorts (drop 1 g.ps)
-  pub many : length (drop 1 g.ps) ≡ left - 1
-  pub there : MatchOption r (left ≡ 0) (λ i. 0 < left)
 
 -- one operand of type t behind the arrays ds, beside the inputs ps
 pub record Taking {ks ws sc : List ℕ} (W : World ks ws sc) (step : ℕ) (t : Ty) (ds : List (ℕ × Ty)) (ps : List Port) (q : Spot) (l : Lines) (r : code.Option Kept) (l' : Lines) : Type 0 where
@@ -83,7 +53,6 @@ pub record TwoInputs {ks ws sc : List ℕ} (W : World ks ws sc) (ps : List Port)
   pub are : ps ≡ (x, asTy W.text f.acc) ∷ (y, asTy W.text f.elem) ∷ []
   pub agree : agrees W.Γ (asTy W.text f.acc) out ≡ true
   pub low : f.acc.levels ≤ 67
-  pub known : Known f.acc
   pub low_elem : f.elem.levels ≤ 67
   pub same : l' ≡ l
 

@@ -16,9 +16,9 @@ use Rattle.standing.specs.Standing.{RecAt, NameAt, ExprAt, ExprsAt, InitsAt, Eac
 use Rattle.lines.specs.Lines.{Said}
 use Rattle.lines.specs.declared.Lines.{Lines}
 use Rattle.lines.specs.declared.Spot.{Spot}
-use Rattle.types.specs.Value.{asTy, Known}
+use Rattle.types.specs.Value.{asTy}
 use Rattle.types.specs.Number.{asHint}
-use Rattle.types.specs.declared.Context.{Context}
+use Rattle.types.specs.declared.context.Context.{Context}
 use Rattle.types.specs.declared.Typ.{Typ}
 use Rattle.rules.specs.World.{WorldOf, source_of, Typed, Listed}
 use Rattle.rules.specs.Post.{Given, value_if}
@@ -71,12 +71,12 @@ pub record DoneArgs (ctx : Context) (side : Records) (at port k step name : ℕ)
 -- ---- items
 
 -- an item of the array at `step`, whose first item has type f
-pub record DoneItem (ctx : Context) (side : Records) (at : ℕ) (h : code.Option Typ) (f : Typ) (step : ℕ) (g : Given ctx side at h) (q : Spot) (l : Lines) (r : code.Option ℕ) (l' : Lines) : Type 0 where
+pub record DoneItem (ctx : Context) (side : Records) (at : ℕ) (h : code.Option Typ) (f : Typ) (step : ℕ) (g : Given ctx side at) (q : Spot) (l : Lines) (r : code.Option ℕ) (l' : Lines) : Type 0 where
   pub said : Said g.W.number q (item g.W.Γ step (asTy g.W.text f) (infer g.W.Γ q.function at g.e) (asHint g.W.text h)) (value_if r tt) l l'
   pub next : IfSome r (λ next. next ≡ at + size g.e)
 
--- the k items at a place, at level d, and their hint
-pub record GivenItems (ctx : Context) (side : Records) (at k : ℕ) (h : code.Option Typ) : Type 0 where
+-- the k items at a place, at level d
+pub record GivenItems (ctx : Context) (side : Records) (at k : ℕ) : Type 0 where
   pub W : WorldOf ctx
   pub es : Exprs
   pub stand : ExprsAt (source_of side W.text) es at
@@ -85,9 +85,8 @@ pub record GivenItems (ctx : Context) (side : Records) (at k : ℕ) (h : code.Op
   pub top : 1 ≤ d
   pub deep : d + depths es ≤ 61
   pub casts : ShallowCastsEach es
-  pub known : IfSome h Known
 
-pub record DoneItems (ctx : Context) (side : Records) (at k : ℕ) (h : code.Option Typ) (f : Typ) (step : ℕ) (g : GivenItems ctx side at k h) (q : Spot) (l : Lines) (r : code.Option ℕ) (l' : Lines) : Type 0 where
+pub record DoneItems (ctx : Context) (side : Records) (at k : ℕ) (h : code.Option Typ) (f : Typ) (step : ℕ) (g : GivenItems ctx side at k) (q : Spot) (l : Lines) (r : code.Option ℕ) (l' : Lines) : Type 0 where
   pub said : Said g.W.number q (items g.W.Γ step (asTy g.W.text f) (infers g.W.Γ q.function at g.es) (asHint g.W.text h)) (value_if r tt) l l'
   pub next : IfSome r (λ next. next ≡ at + sizes g.es)
 

@@ -14,20 +14,20 @@ use Rattle.standing.specs.Standing.{source, ExprAt}
 use Rattle.lines.specs.Lines.{Put, Said}
 use Rattle.lines.specs.declared.Lines.{Lines}
 use Rattle.lines.specs.declared.Spot.{Spot}
-use Rattle.types.specs.Value.{Naming, asTy, Known}
+use Rattle.types.specs.Value.{Naming, asTy}
 use Rattle.types.specs.Number.{asHint, KindIs}
-use Rattle.types.specs.declared.Context.{Context}
+use Rattle.types.specs.declared.context.Context.{Context}
 use Rattle.types.specs.declared.Typ.{Typ}
 use Rattle.rules.specs.World.{WorldOf, source_of}
-use Rattle.rules.specs.declared.Typed.{Typed}
+use Rattle.types.specs.declared.Typed.{Typed}
 
 -- the number of lengths of a hint, 0 of none
 abbrev pub hint_levels : code.Option Typ → ℕ
 hint_levels None = 0
 hint_levels (Some t) = t.levels
 
--- an expression e at a place of a part of the records, at level d of a right-hand side, and a hint
-pub record Given (ctx : Context) (side : Records) (at : ℕ) (h : code.Option Typ) : Type 0 where
+-- an expression e at a place of a part of the records, at level d of a right-hand side
+pub record Given (ctx : Context) (side : Records) (at : ℕ) : Type 0 where
   pub W : WorldOf ctx
   pub e : Expr
   pub stands : ExprAt (source_of side W.text) e at
@@ -35,26 +35,23 @@ pub record Given (ctx : Context) (side : Records) (at : ℕ) (h : code.Option Ty
   pub top : 1 ≤ d
   pub deep : d + depth e ≤ 61
   pub casts : ShallowCasts e
-  pub known : IfSome h Known
 
 -- the type of an answer, if there is one
 abbrev pub typed : Naming → code.Option Typed → Option Ty
 typed ρ None = none
 typed ρ (Some t) = some (asTy ρ t.typ)
 
--- What the code answers and leaves in the lines is what s says at the spot q. If there is a type, it has at most `high` lengths, its name's
--- number is below 512, and the next record is number `end`.
+-- What the code answers and leaves in the lines is what s says at the spot q. If there is a type, it has at most `high` lengths, and
+-- the next record is number `end`.
 pub record Done (num : Name → ℕ) (ρ : Naming) (q : Spot) (s : Out Ty) (end high : ℕ) (l : Lines) (r : code.Option Typed) (l' : Lines) : Type 0 where
   pub said : Said num q s (typed ρ r) l l'
   pub low : IfSome r (λ t. t.typ.levels ≤ high)
-  pub known : IfSome r (λ t. Known t.typ)
   pub next : IfSome r (λ t. t.next ≡ end)
 
 -- the same of a rule, which gives a type and no place
 pub record Concludes (num : Name → ℕ) (ρ : Naming) (q : Spot) (s : Out Ty) (high : ℕ) (l : Lines) (r : code.Option Typ) (l' : Lines) : Type 0 where
   pub said : Said num q s (asHint ρ r) l l'
   pub low : IfSome r (λ t. t.levels ≤ high)
-  pub known : IfSome r Known
 
 -- a rule over types: what it says in each world
 abbrev pub Ruled : (ctx : Context) (q : Spot) (s : WorldOf ctx → Out Ty) (high : ℕ) (l : Lines) (r : code.Option Typ) (l' : Lines) → Type 0
@@ -67,7 +64,7 @@ LiteralRuled q at k l r l' = (num : Name → ℕ) (ρ : Naming) (t : Option Ty) 
 -- the type of the expression at a place: a hint of at most 127 lengths gives a type of at most 127
 abbrev pub Inferring : (ctx : Context) (side : Records) (at : ℕ) (h : code.Option Typ) (q : Spot) (l : Lines) (r : code.Option Typed) (l' : Lines) → Type 0
 Inferring ctx side at h q l r l' =
-    (g : Given ctx side at h) →
+    (g : Given ctx side at) →
     Done g.W.number g.W.text q (infer g.W.Γ q.function at g.e (asHint g.W.text h))
     (at + size g.e) (max (128 - g.d) (hint_levels h)) l r l'
 
@@ -80,13 +77,11 @@ pub record Failed {A : Type 0} (q : Spot) (c step name : ℕ) (l : Lines) (r : c
 pub record TypeIs (ρ : Naming) (t : Ty) (high : ℕ) (r : Typ) : Type 0 where
   pub is : asTy ρ r ≡ t
   pub low : r.levels ≤ high
-  pub known : Known r
 
 -- the hint r is s, with at most `high` lengths
 pub record HintIs (ρ : Naming) (s : Option Ty) (high : ℕ) (r : code.Option Typ) : Type 0 where
   pub is : asHint ρ r ≡ s
   pub low : hint_levels r ≤ high
-  pub known : IfSome r Known
 
 -- b, where the code gives a value
 abbrev pub value_if : {A B : Type 0} → code.Option A → B → Option B

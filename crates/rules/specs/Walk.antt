@@ -6,6 +6,7 @@ use Rattle.lustre.specs.Project.{Port}
 use Rattle.input.specs.Depths.{ShallowPorts}
 use Rattle.standing.specs.Standing.{Source, NameAt, EachAt, PortAt, port_size}
 use Rattle.types.specs.Value.{Naming}
+use Rattle.lustre.specs.declared.NameId.{NameId}
 use Rattle.rules.specs.World.{Typed, source_of}
 use Rattle.rules.specs.declared.walk.Ports.{Ports}
 
@@ -29,15 +30,15 @@ pub record FirstPort (S : Source) (ps : List Port) (at next left : ℕ) : Type 0
 pub record Walking (w : Ports) : Type 0 where
   pub text : Naming
   pub ps : List Port
-  pub left : PortsLeft (source_of w.records.now text) ps w.at w.left
+  pub left : PortsLeft (source_of w.records text) ps w.at w.left
 
 -- a call of w gave the name and the place of the first port that was left, or none was, and left v
-abbrev pub Gave : Ports → Option (ℕ × ℕ) → Ports → Type 0
-Gave w None v = (v.at ≡ w.at) × ((ρ : Naming) (ps : List Port) → PortsLeft (source_of w.records.now ρ) ps w.at w.left → ps ≡ [])
+abbrev pub Gave : Ports → Option (NameId × ℕ) → Ports → Type 0
+Gave w None v = (v.at ≡ w.at) × (v.left ≡ w.left) × ((ρ : Naming) (ps : List Port) → PortsLeft (source_of w.records ρ) ps w.at w.left → ps ≡ [])
 Gave w (Some p) v =
-    (p.1 ≡ w.at) × (p.0 ≡ get_or w.records.now.words.now w.at 0)
-    × ((ρ : Naming) (ps : List Port) → PortsLeft (source_of w.records.now ρ) ps w.at w.left → FirstPort (source_of w.records.now ρ) ps w.at v.at v.left)
+    (p.1 ≡ w.at) × (p.0.number ≡ get_or w.records.words.now w.at 0)
+    × ((ρ : Naming) (ps : List Port) → PortsLeft (source_of w.records ρ) ps w.at w.left → FirstPort (source_of w.records ρ) ps w.at v.at v.left)
 
-pub record Walked (w : Ports) (r : Option (ℕ × ℕ)) (v : Ports) : Type 0 where
-  pub records : v.records.now ≡ w.records.now
+pub record Walked (w : Ports) (r : Option (NameId × ℕ)) (v : Ports) : Type 0 where
+  pub records : v.records ≡ w.records
   pub gave : Gave w r v

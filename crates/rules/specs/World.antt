@@ -13,7 +13,7 @@ use Rattle.input.specs.Depths.{ShallowType, ShallowPorts}
 use Rattle.standing.specs.Standing.{Source, source, RecAt, NameAt, TypeAt, PortsAt, ports_size}
 use Rattle.types.specs.Value.{Naming}
 use Rattle.types.specs.Scope.{Table, Targets}
-use Rattle.types.specs.declared.Context.{Context}
+use Rattle.types.specs.declared.context.Context.{Context}
 use Rattle.lustre.specs.declared.Records.{Records}
 
 -- the type t stands at a place and has at most 68 levels

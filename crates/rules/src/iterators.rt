@@ -7,19 +7,20 @@ ghost use Rattle.lustre.specs.Expr.{Map};
 ghost use Rattle.lustre.specs.Project.{Port};
 ghost use Rattle.lustre.specs.Resolve.{Scope as Meanings};
 ghost use Rattle.lustre.specs.Infer.{Typing, first_length, iterate_as};
-ghost use Rattle.types.specs.Value.{Naming, asTy, Known};
+ghost use Rattle.types.specs.Value.{Naming, asTy};
 ghost use Rattle.types.specs.Number.{asHint};
 ghost use Rattle.rules.specs.World.{WorldOf, Listed, PortsOf, source_of};
 ghost use Rattle.rules.specs.Post.{Concludes};
 ghost use Rattle.rules.specs.Flags.{First, Flags, Beside, type_fits};
-ghost use Rattle.rules.specs.Iterators.{Iterated, InputsOf, NextInput, Taking, FoldStarts, element_end, fold_end};
+ghost use Rattle.rules.specs.Iterators.{Iterated, Taking, FoldStarts, element_end, fold_end};
 
+use crate::fail;
 use crate::ports::ports_end;
-use crate::{declared, fail};
 use lines::{Lines, Spot};
-use lustre::{NONE, Records, codes, kinds};
-use types::records::{TypeRead, read_type};
-use types::{Context, Scope, Typ};
+use lustre::{NONE, NameId, codes, kinds};
+use types::Typ;
+use types::context::{Context, Scope};
+use types::records::read_type;
 
 // The length and the element type of an array.
 #[derive(Clone, Copy)]
@@ -59,34 +60,29 @@ pub struct FoldInputs {
 }
 
 // The function that is iterated, lib.rs 1233 to 1280: E0140 to E0142.
-pub fn iterated(ctx: &Context, name: u64, at: usize, q: Spot, lines: &mut Lines) -> Option<Callee>
-    requires { WorldOf ctx.now × (name < 512) }
-    ensures { (W : WorldOf ctx.now) → Iterated W at name q lines.old result lines.new }
+pub fn iterated(
+    ctx: &Context,
+    name: NameId,
+    at: usize,
+    q: Spot,
+    lines: &mut Lines,
+) -> Option<Callee>
+    requires { WorldOf ctx.now }
+    ensures { (W : WorldOf ctx.now) → Iterated W at name.number q lines.old result lines.new }
 {
-    let Some(node) = declared(ctx.scope, Scope::NODES, name) else {
-        return fail(codes::E0140, at, name, q, lines);
+    let Some(node) = ctx.scope.declared(Scope::NODES, name) else {
+        return fail(codes::E0140, at, name.number, q, lines);
     };
     if ctx.records.kinds[node] != kinds::FUNCTION {
-        return fail(codes::E0141, at, name, q, lines);
+        return fail(codes::E0141, at, name.number, q, lines);
     }
     let inputs = node + 1;
     let outputs = ports_end(&ctx.records, inputs);
     if ctx.records.words[outputs] != 1 {
-        return fail(codes::E0142, at, name, q, lines);
+        return fail(codes::E0142, at, name.number, q, lines);
     }
     let result = read_type(&ctx.records, outputs + 2).typ;
     Some(Callee { inputs, result })
-}
-
-// The first of the inputs that are left, at a port: its type, and the next port.
-pub fn input_at(records: &Records, port: usize, left: u64) -> Option<TypeRead>
-    requires { InputsOf records.now port left }
-    ensures { (g : InputsOf records.now port left) → NextInput records.now port left g result }
-{
-    if left == 0 {
-        return None;
-    }
-    Some(read_type(records, port + 1))
 }
 
 impl Kept {
@@ -110,21 +106,20 @@ impl Kept {
     }
 }
 
-// Whether the type t is the one wanted, if one is.
-// Kept: matches here and below in the place of is_none_or, whose closure would need clauses of its own for the call in it.
-fn fits(ctx: &Context, want: Option<Typ>, t: &Typ) -> bool
-    requires { WorldOf ctx.now }
-    ensures { (W : WorldOf ctx.now) → result ≡ type_fits W.Γ W.text want (asTy W.text t.now) }
+// Whether the type t agrees with another, if there is one.
+// Kept: a match in the place of is_none_or, whose closure would need clauses of its own for the call in it.
+fn fits(ctx: &Context, t: &Typ, other: Option<Typ>) -> bool
+    ensures { (W : WorldOf ctx.now) → result ≡ type_fits W.Γ W.text (asTy W.text t.now) other }
 {
-    match want {
-        Some(w) => ctx.compatible(&w, t),
+    match other {
+        Some(o) => ctx.compatible(t, &o),
         None => true,
     }
 }
 
 // One array more, of the resolved array type t, beside an input or none.
 fn took(ctx: &Context, kept: Kept, t: &Typ, want: Option<Typ>) -> Kept
-    requires { WorldOf ctx.now × (0 < t.now.levels) }
+    requires { 0 < t.now.levels }
     ensures { (W : WorldOf ctx.now) (ds : List (ℕ × Ty)) (ps : List Port) → Flags W.Γ W.text ds ps kept → Beside W.text (drop (length ds) ps) want →
         (x : ℕ × Ty) × (asTy W.text t.now ≡ ArrayTy x.0 x.1) × Flags W.Γ W.text (ds ++ (x ∷ [])) ps result }
 {
@@ -136,7 +131,7 @@ fn took(ctx: &Context, kept: Kept, t: &Typ, want: Option<Typ>) -> Kept
     Kept {
         first: Some(first),
         even: kept.even && array.len == first.len,
-        agree: kept.agree && fits(ctx, want, &array.element),
+        agree: kept.agree && fits(ctx, &array.element, want),
     }
 }
 
@@ -150,7 +145,6 @@ pub fn take_array(
     q: Spot,
     lines: &mut Lines,
 ) -> Option<Kept>
-    requires { WorldOf ctx.now }
     ensures { (W : WorldOf ctx.now) (ds : List (ℕ × Ty)) (ps : List Port) → Flags W.Γ W.text ds ps kept → Beside W.text (drop (length ds) ps) want →
         Taking W step (asTy W.text u.now) ds ps q lines.old result lines.new }
 {
@@ -171,7 +165,7 @@ pub fn map_rule(
     q: Spot,
     lines: &mut Lines,
 ) -> Option<Typ>
-    requires { (res.levels < 127) × Known res }
+    requires { res.levels < 127 }
     ensures { (num : Name → ℕ) (ρ : Naming) (Γ : Meanings) (ds : List (ℕ × Ty)) (ps : List Port) (seed : MathOption Typing) →
         Flags Γ ρ ds ps kept.now → length ps ≡ inputs → length ds ≡ arrays →
         Concludes num ρ q (iterate_as Γ Map at ps seed ds (asTy ρ res)) (res.levels + 1) lines.old result lines.new }
@@ -191,7 +185,7 @@ pub fn fold_inputs(
     q: Spot,
     lines: &mut Lines,
 ) -> Option<FoldInputs>
-    requires { WorldOf ctx.now × PortsOf ctx.now.records list }
+    requires { PortsOf ctx.now.records list }
     ensures { (W : WorldOf ctx.now) (ps : List Port) → Listed (source_of ctx.now.records W.text) ps list →
         FoldStarts W at ps (asTy W.text res.now) q lines.old result lines.new }
 {
@@ -217,15 +211,10 @@ fn element_rule(
     q: Spot,
     lines: &mut Lines,
 ) -> Option<Typ>
-    requires { WorldOf ctx.now × Known res }
     ensures { (W : WorldOf ctx.now) (ds : List (ℕ × Ty)) (ps : List Port) → Flags W.Γ W.text ds ps kept.now →
         Concludes W.number W.text q (element_end W.Γ at (asTy W.text elem.now) ds (asTy W.text res)) res.levels lines.old result lines.new }
 {
-    let agrees = match kept.first {
-        Some(a) => ctx.compatible(elem, &a.element),
-        None => true,
-    };
-    if !agrees {
+    if !fits(ctx, elem, kept.first.map(|a| a.element)) {
         return fail(codes::E0145, at, NONE, q, lines);
     }
     Some(res)
@@ -234,26 +223,20 @@ fn element_rule(
 // A fold whose seed has a type or none, lib.rs 1380 to 1410: E0145.
 pub fn fold_end(
     ctx: &Context,
-    acc: &Typ,
+    inputs: &FoldInputs,
     seed: Option<Typ>,
-    elem: &Typ,
     kept: &Kept,
     res: Typ,
     at: usize,
     q: Spot,
     lines: &mut Lines,
 ) -> Option<Typ>
-    requires { WorldOf ctx.now × Known res }
     ensures { (W : WorldOf ctx.now) (ds : List (ℕ × Ty)) (ps : List Port) → Flags W.Γ W.text ds ps kept.now →
-        Concludes W.number W.text q (fold_end W.Γ at (asTy W.text acc.now) (asHint W.text seed) (asTy W.text elem.now) ds (asTy W.text res))
+        Concludes W.number W.text q (fold_end W.Γ at (asTy W.text inputs.now.acc) (asHint W.text seed) (asTy W.text inputs.now.elem) ds (asTy W.text res))
         res.levels lines.old result lines.new }
 {
-    let agrees = match seed {
-        Some(t) => ctx.compatible(acc, &t),
-        None => true,
-    };
-    if !agrees {
+    if !fits(ctx, &inputs.acc, seed) {
         return fail(codes::E0145, at, NONE, q, lines);
     }
-    element_rule(ctx, elem, kept, res, at, q, lines)
+    element_rule(ctx, &inputs.elem, kept, res, at, q, lines)
 }

@@ -11,7 +11,7 @@ pub mod ports;
 pub mod structs;
 pub mod walk;
 
-ghost use Rattle.std.specs.Prelude.{◌≡◌, false, [], ◌∷◌, ◌+◌, ◌-◌, ◌^◌, ◌<◌, ◌≤◌, max, get_or, IfSome, MatchOption, if◌then◌else◌};
+ghost use Rattle.std.specs.Prelude.{◌≡◌, [], ◌∷◌, ◌-◌, ◌<◌, max, if◌then◌else◌};
 ghost use Rattle.std.proofs.Math.Option.{some};
 ghost use Rattle.lustre.specs.Types.{within, is_bool, is_integer};
 ghost use Rattle.lustre.specs.Expr.{UnaryOp, BinOp, op_class};
@@ -19,23 +19,17 @@ ghost use Rattle.lustre.specs.Grammar.{unary_kind, op_kind};
 ghost use Rattle.lustre.specs.Line.{plain, named, require};
 ghost use Rattle.lustre.specs.Infer.{meets as meets_class, fault as fault_of, operands as operands_of, agree_rule, unless_agrees, unary_of, var_rule, field_of, index_of, cast_of, clock, res, agrees};
 ghost use Rattle.lines.specs.Lines.{Noted, Said};
-ghost use Rattle.types.specs.Value.{asTy, Known};
+ghost use Rattle.types.specs.Value.{asTy};
 ghost use Rattle.rules.specs.World.{WorldOf};
 ghost use Rattle.rules.specs.Post.{Ruled, LiteralRuled, Failed, passes};
 ghost use Rattle.rules.specs.Classes.{class_as, between, one_of};
 
 use crate::ports::find_port;
 use lines::{Lines, Spot};
-use lustre::{NONE, codes, kinds};
+use lustre::{NONE, NameId, codes, kinds};
+use types::Typ;
+use types::context::{Context, Scope};
 use types::records::read_type;
-use types::{Context, Scope, Typ};
-
-// The type of an expression, and the record behind it.
-#[derive(Clone, Copy)]
-pub struct Typed {
-    pub typ: Typ,
-    pub next: usize,
-}
 
 // Where the next operand and its port are.
 #[derive(Clone, Copy)]
@@ -78,19 +72,6 @@ pub fn fail<T: Drop>(code: u64, step: usize, name: u64, q: Spot, lines: &mut Lin
     None
 }
 
-// The record that declares a name in the table of the scope that begins at an entry, if one does.
-pub fn declared(scope: &Scope, table: usize, name: u64) -> Option<usize>
-    requires { (table ≤ 2560) × (name < 512) }
-    ensures entry { MatchOption result (get_or scope.now.entries (name + table) 0 ≡ 0) (λ p. get_or scope.now.entries (name + table) 0 ≡ p + 1) }
-    ensures below { IfSome result (λ p. p + 1 < 2 ^ 64) }
-{
-    let entry = scope.entries[name as usize + table];
-    if entry == 0 {
-        return None;
-    }
-    Some(entry as usize - 1)
-}
-
 // Whether a kind is from low to high.
 fn is_between(kind: Option<u8>, low: u8, high: u8) -> bool
     ensures { result ≡ between low high kind }
@@ -101,7 +82,7 @@ fn is_between(kind: Option<u8>, low: u8, high: u8) -> bool
 // Whether the type t is a basic type of the kinds from low to high once resolved.
 #[tactic(auto, using(crate::proofs::BasicKinds::within_kind, crate::proofs::Laws::kind_resolved))]
 fn resolves_within(ctx: &Context, t: &Typ, low: u8, high: u8) -> bool
-    requires { WorldOf ctx.now × (high < 34) }
+    requires { high < 34 }
     ensures { (W : WorldOf ctx.now) → result ≡ within low high (res W.Γ (asTy W.text t.now)) }
 {
     is_between(ctx.basic_kind(t), low, high)
@@ -109,7 +90,6 @@ fn resolves_within(ctx: &Context, t: &Typ, low: u8, high: u8) -> bool
 
 // Whether the type t is Bool once resolved.
 pub fn is_truth(ctx: &Context, t: &Typ) -> bool
-    requires { WorldOf ctx.now }
     ensures { (W : WorldOf ctx.now) → result ≡ is_bool (res W.Γ (asTy W.text t.now)) }
 {
     resolves_within(ctx, t, kinds::BOOL, kinds::BOOL)
@@ -126,20 +106,22 @@ pub fn literal_rule(kind: Option<u8>, at: usize, q: Spot, lines: &mut Lines) -> 
 }
 
 // A variable, lib.rs 754: among ports and locals, then constants, then variants; else E0080.
-pub fn var_rule(ctx: &Context, name: u64, at: usize, q: Spot, lines: &mut Lines) -> Option<Typ>
-    requires { WorldOf ctx.now × (name < 512) }
-    ensures { Ruled ctx.now q (λ W. var_rule W.Γ at (W.text name)) 67 lines.old result lines.new }
+// Kept: that there is a world is asked, here and by the four rules that ask for it, and is no ghost fact of the context: a world holds texts
+// and meanings, where a ghost fact has one proof alone, and a truncated one would not give `find_port` its list.
+pub fn var_rule(ctx: &Context, name: NameId, at: usize, q: Spot, lines: &mut Lines) -> Option<Typ>
+    requires { WorldOf ctx.now }
+    ensures { Ruled ctx.now q (λ W. var_rule W.Γ at (W.text name.number)) 67 lines.old result lines.new }
 {
-    if let Some(port) = declared(ctx.scope, Scope::PORTS, name) {
+    if let Some(port) = ctx.scope.declared(Scope::PORTS, name) {
         return Some(read_type(&ctx.records, port + 1).typ);
     }
-    if let Some(constant) = declared(ctx.scope, Scope::CONSTANTS, name) {
+    if let Some(constant) = ctx.scope.declared(Scope::CONSTANTS, name) {
         return Some(read_type(&ctx.records, constant + 1).typ);
     }
-    if let Some(variant) = declared(ctx.scope, Scope::VARIANTS, name) {
-        return Some(Typ::bottom(kinds::NAMED, ctx.records.words[variant]));
+    if let Some(variant) = ctx.scope.declared(Scope::VARIANTS, name) {
+        return Some(Typ::named(ctx.records.name(variant)));
     }
-    fail(codes::E0080, at, name, q, lines)
+    fail(codes::E0080, at, name.number, q, lines)
 }
 
 // `not` or minus, lib.rs 779: E0081, E0082.
@@ -151,7 +133,6 @@ pub fn unary_rule(
     q: Spot,
     lines: &mut Lines,
 ) -> Option<Typ>
-    requires { WorldOf ctx.now × Known t }
     ensures { (o : UnaryOp) → unary_kind o ≡ k → Ruled ctx.now q (λ W. unary_of W.Γ at o (asTy W.text t)) t.levels lines.old result lines.new }
 {
     if k == kinds::NOT {
@@ -181,7 +162,7 @@ pub fn class_of(k: u8) -> Class
 
 // Whether the types l and r are one basic type of the kinds from low to high once resolved.
 fn one_within(ctx: &Context, l: &Typ, r: &Typ, low: u8, high: u8) -> bool
-    requires { WorldOf ctx.now × (high < 34) }
+    requires { high < 34 }
     ensures { (W : WorldOf ctx.now) → result ≡ one_of low high (res W.Γ (asTy W.text l.now)) (res W.Γ (asTy W.text r.now)) }
 {
     let kind = ctx.basic_kind(l);
@@ -190,7 +171,6 @@ fn one_within(ctx: &Context, l: &Typ, r: &Typ, low: u8, high: u8) -> bool
 
 // Whether the types l and r of operands are what their class asks once resolved, lib.rs 823 to 897.
 fn meets(ctx: &Context, class: Class, l: &Typ, r: &Typ) -> bool
-    requires { WorldOf ctx.now }
     ensures { (W : WorldOf ctx.now) → result ≡ meets_class (class_as class) (res W.Γ (asTy W.text l.now)) (res W.Γ (asTy W.text r.now)) }
 {
     match class {
@@ -211,7 +191,6 @@ pub fn operands(
     q: Spot,
     lines: &mut Lines,
 ) -> Option<Typ>
-    requires { WorldOf ctx.now × Known l }
     ensures { Ruled ctx.now q (λ W. operands_of W.Γ at (class_as class) (asTy W.text l) (asTy W.text r.now)) l.levels lines.old result lines.new }
 {
     if !meets(ctx, class, &l, r) {
@@ -233,7 +212,6 @@ pub fn agree_rule(
     q: Spot,
     lines: &mut Lines,
 ) -> Option<Typ>
-    requires { WorldOf ctx.now × Known s }
     ensures { Ruled ctx.now q (λ W. agree_rule W.Γ at code (asTy W.text s) (asTy W.text t.now)) s.levels lines.old result lines.new }
 {
     if ctx.compatible(&s, t) {
@@ -253,7 +231,6 @@ pub fn unless_agrees(
     q: Spot,
     lines: &mut Lines,
 )
-    requires { WorldOf ctx.now }
     ensures { (W : WorldOf ctx.now) →
         Noted W.number q (unless_agrees W.Γ (asTy W.text want.now) (some (asTy W.text t.now)) (named step code (W.text name))) lines.old lines.new }
 {
@@ -271,7 +248,7 @@ pub fn field_rule(
     q: Spot,
     lines: &mut Lines,
 ) -> Option<Typ>
-    requires { WorldOf ctx.now × Known t.now }
+    requires { WorldOf ctx.now }
     ensures { Ruled ctx.now q (λ W. field_of W.Γ at (W.text name) (res W.Γ (asTy W.text t.now))) 67 lines.old result lines.new }
 {
     let s = ctx.resolve(t);
@@ -281,7 +258,8 @@ pub fn field_rule(
     if s.base > kinds::NAMED {
         return fail(codes::E0121, at, name, q, lines);
     }
-    let Some(record) = declared(ctx.scope, Scope::RECORDS, s.name) else {
+    let shape = NameId { number: s.name };
+    let Some(record) = ctx.scope.declared(Scope::RECORDS, shape) else {
         return fail(codes::E0121, at, name, q, lines);
     };
     let Some(port) = find_port(&ctx.records, record + 1, name) else {
@@ -292,7 +270,6 @@ pub fn field_rule(
 
 // A line where the type i of an index is no integer type once resolved: E0111.
 fn index_note(ctx: &Context, i: &Typ, at: usize, q: Spot, lines: &mut Lines)
-    requires { WorldOf ctx.now }
     ensures { (W : WorldOf ctx.now) →
         Noted W.number q (if◌then◌else◌ (is_integer (res W.Γ (asTy W.text i.now))) [] (plain at 111 ∷ [])) lines.old lines.new }
 {
@@ -310,7 +287,6 @@ pub fn index_rule(
     q: Spot,
     lines: &mut Lines,
 ) -> Option<Typ>
-    requires { WorldOf ctx.now × Known b.now }
     ensures { Ruled ctx.now q (λ W. index_of W.Γ at (asTy W.text b.now) (asTy W.text i.now)) (max 63 (b.now.levels - 1)) lines.old result lines.new }
 {
     index_note(ctx, i, at, q, lines);
@@ -330,7 +306,6 @@ pub fn cast_rule(
     q: Spot,
     lines: &mut Lines,
 ) -> Option<Typ>
-    requires { WorldOf ctx.now × Known to }
     ensures { Ruled ctx.now q (λ W. cast_of W.Γ at (asTy W.text to) (asTy W.text a.now)) to.levels lines.old result lines.new }
 {
     if !resolves_within(ctx, a, kinds::INT8, kinds::FLOAT64) {
@@ -343,17 +318,17 @@ pub fn cast_rule(
 }
 
 // A clock, `check_clock_var_is_bool`, lib.rs 1449, among ports and locals alone: E0080, E0130.
-pub fn clock_rule(ctx: &Context, name: u64, at: usize, q: Spot, lines: &mut Lines)
-    requires { WorldOf ctx.now × (name < 512) }
-    ensures { (W : WorldOf ctx.now) → Noted W.number q (clock W.Γ at (W.text name)) lines.old lines.new }
+pub fn clock_rule(ctx: &Context, name: NameId, at: usize, q: Spot, lines: &mut Lines)
+    requires { WorldOf ctx.now }
+    ensures { (W : WorldOf ctx.now) → Noted W.number q (clock W.Γ at (W.text name.number)) lines.old lines.new }
 {
-    let Some(port) = declared(ctx.scope, Scope::PORTS, name) else {
-        lines.put(q, codes::E0080, at as u64, name);
+    let Some(port) = ctx.scope.declared(Scope::PORTS, name) else {
+        lines.put(q, codes::E0080, at as u64, name.number);
         return;
     };
     let t = read_type(&ctx.records, port + 1).typ;
     if !is_truth(ctx, &t) {
-        lines.put(q, codes::E0130, at as u64, name);
+        lines.put(q, codes::E0130, at as u64, name.number);
     }
 }
 
@@ -366,7 +341,6 @@ pub fn item_rule(
     q: Spot,
     lines: &mut Lines,
 ) -> bool
-    requires { WorldOf ctx.now }
     ensures { (W : WorldOf ctx.now) →
         Said W.number q (require (agrees W.Γ (asTy W.text first.now) (asTy W.text t.now)) (plain step 124)) (passes result) lines.old lines.new }
 {

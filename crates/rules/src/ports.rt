@@ -14,14 +14,13 @@ ghost use Rattle.rules.specs.World.{WorldOf, TypeOf, PortsOf, source_of};
 ghost use Rattle.rules.specs.Post.{TypeIs};
 ghost use Rattle.rules.specs.Ports.{PortFound, Called};
 
-use crate::{declared, fail};
+use crate::fail;
+use crate::walk::ports_of;
 use lines::{Lines, Spot};
-use lustre::{Records, codes, kinds};
+use lustre::{NameId, Records, codes, kinds};
+use types::context::{Context, Scope};
 use types::records::{last_of, read_type};
-use types::{Context, Scope, TUPLE, Typ};
-
-// The kind of the type of no value, which no record has.
-const UNIT: u8 = 35;
+use types::{TUPLE, Typ, UNIT};
 
 // The record behind the type at a place.
 #[tactic(auto, using(crate::proofs::Places::type_there, crate::proofs::Places::last_ends))]
@@ -33,16 +32,14 @@ pub fn type_end(records: &Records, at: usize) -> usize
 }
 
 // The record behind the list of ports at a place.
-// Kept: walks over ports here and in `structs` hold their place beside a for, since where a port ends is read from it.
 pub fn ports_end(records: &Records, at: usize) -> usize
     requires { PortsOf records.now at }
     ensures { (g : PortsOf records.now at) → result ≡ at + ports_size g.ps }
 {
-    let mut next = at + 1;
-    for _ in 0..records.words[at] {
-        next = type_end(records, next + 1);
-    }
-    next
+    // Kept: no `for`, since where the walk ends is the answer, and behind a `for` over `ports.by_ref()` a proof knows nothing of it.
+    let mut ports = ports_of(records, at);
+    while ports.next().is_some() {}
+    ports.at
 }
 
 // The first port of a name in the list at a place.
@@ -51,12 +48,10 @@ pub fn find_port(records: &Records, at: usize, name: u64) -> Option<usize>
     ensures port { (g : PortsOf records.now at) → Injective g.text → PortFound (source_of records.now g.text) g.ps (g.text name) result }
     ensures below { IfSome result (λ p. p + 1 < 2 ^ 64) }
 {
-    let mut next = at + 1;
-    for _ in 0..records.words[at] {
-        if records.words[next] == name {
-            return Some(next);
+    for (port, place) in ports_of(records, at) {
+        if port.number == name {
+            return Some(place);
         }
-        next = type_end(records, next + 1);
     }
     None
 }
@@ -86,22 +81,22 @@ fn kind_rule(kind: u8, call: usize, name: u64, q: Spot, lines: &mut Lines)
 // What a call with so many arguments asks of its callee, lib.rs 948 to 979: E0100 to E0102. The callee's first port.
 pub fn called(
     ctx: &Context,
-    name: u64,
+    name: NameId,
     count: u64,
     at: usize,
     q: Spot,
     lines: &mut Lines,
 ) -> Option<usize>
-    requires { WorldOf ctx.now × (name < 512) }
-    ensures { (W : WorldOf ctx.now) → Called W at name count q lines.old result lines.new }
+    requires { WorldOf ctx.now }
+    ensures { (W : WorldOf ctx.now) → Called W at name.number count q lines.old result lines.new }
 {
-    let Some(node) = declared(ctx.scope, Scope::NODES, name) else {
-        return fail(codes::E0100, at, name, q, lines);
+    let Some(node) = ctx.scope.declared(Scope::NODES, name) else {
+        return fail(codes::E0100, at, name.number, q, lines);
     };
-    kind_rule(ctx.records.kinds[node], at, name, q, lines);
+    kind_rule(ctx.records.kinds[node], at, name.number, q, lines);
     let inputs = node + 1;
     if count != ctx.records.words[inputs] {
-        return fail(codes::E0102, at, name, q, lines);
+        return fail(codes::E0102, at, name.number, q, lines);
     }
     Some(inputs + 1)
 }

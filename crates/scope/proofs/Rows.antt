@@ -1,6 +1,8 @@
 -- The tables step by step: none declared, one name more, and ports forgotten.
 -- Assumes nothing.
-use Rattle.std.specs.Prelude.{if◌then◌else◌}
+use Rattle.std.specs.Prelude as code
+use Rattle.std.specs.Prelude.{None, Some, MatchOption, if◌then◌else◌}
+use Rattle.std.specs.Option.{is_some}
 use Prim.Native.Nat.{ℕ, suc, ◌+◌, ◌≤◌, ◌<◌}
 use native.Mathlib.Omega.{arith}
 use mathlib.Core.Path.{◌≡◌, refl, sym, ◌∙◌, ap, subst}
@@ -11,7 +13,7 @@ use mathlib.Core.Option.{Option, none, some}
 use lib.Dec.{eqb}
 use lib.ListN.{length, get_or, set, replicate, length-set, length-replicate, get_or-replicate}
 use lib.Seq.{get_or-set_same, get_or-set_other}
-use borrow.Author.Tests.{ne_eqb, eqb-true}
+use borrow.Author.Tests.{eq-eqb, ne_eqb, eqb-true}
 use Rattle.lustre.specs.Name.{Name, ◌is◌, ◌among◌, mem, lookup, ◌or◌}
 use Rattle.lustre.specs.Types.{Ty}
 use Rattle.lustre.specs.Project.{Port, Heading, port_names}
@@ -76,6 +78,13 @@ pub found_among : {A : Type 0} {P : ℕ → A → Type 0} {e : ℕ} (x : Name) (
 found_among x l f = found_there f ∙ ap not (lookup_among x l)
 
 -- ---- one table
+
+-- an entry is 0 exactly where it leads to no declaration
+pub free_entry : (r : code.Option ℕ) (e : ℕ) (b : Bool) → MatchOption r (e ≡ 0) (λ p. e ≡ p + 1) → is_some r ≡ not b → eqb e 0 ≡ b
+free_entry None e true h s = eq-eqb e 0 h
+free_entry None e false h s = cc
+free_entry (Some p) e true h s = cc
+free_entry (Some p) e false h s = ne_eqb e 0 (λ z. omega arith)
 
 module _ {A : Type 0} (ρ : Naming) (P : ℕ → A → Type 0) where
   -- no name declared

@@ -55,6 +55,10 @@ module _ {ks ws : List ℕ} {ρ : Naming} {as' : List (Name × Ty)} {rs : List (
   pub types_targets : Targets ks ws sc × Table ρ (λ x. lookup x as') ks ws sc
   types_targets = (record { room = omega (arith, T.room); stand = λ n. (entry n).stands }, λ n. (entry n).is)
 
+  -- what a context of the records and the scope asks
+  pub tables_led : Targets ks ws sc
+  tables_led = types_targets.0
+
 module _ {ks ws : List ℕ} (g : Model ks ws) {env : List Port} {sc : List ℕ} (T : Declared g env sc) where
   -- the aliases by text
   pub world_alias : Table g.text (scope_in g env).alias ks ws sc
@@ -96,7 +100,7 @@ module _ {ks ws : List ℕ} (g : Model ks ws) {env : List Port} {sc : List ℕ} 
     even = g.even;
     room = T.room;
     alias = world_alias;
-    targets = (types_targets T).0;
+    targets = tables_led T;
     fields = world_fields;
     variant = world_variant;
     constant = world_constant;

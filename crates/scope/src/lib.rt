@@ -10,17 +10,16 @@ ghost use Rattle.loops.specs.Rows.{has, Connected};
 
 use lines::{Lines, Spot};
 use loops::NameSet;
-use lustre::NONE;
-use types::Scope;
+use lustre::{NONE, NameId};
+use types::context::Scope;
 
 // Adds a name to a set, with a line where the set has it already.
-pub fn repeated_name(set: &mut NameSet, name: u64, code: u64, q: Spot, lines: &mut Lines)
-    requires { name < 512 }
-    ensures noted { (num : Name → ℕ) (x : Name) → num x ≡ name → Noted num q (if has set.old.bits 0 name then about code x ∷ [] else []) lines.old lines.new }
-    ensures added { Connected set.old.bits 0 name set.new.bits }
+pub fn repeated_name(set: &mut NameSet, name: NameId, code: u64, q: Spot, lines: &mut Lines)
+    ensures noted { (num : Name → ℕ) (x : Name) → num x ≡ name.number → Noted num q (if has set.old.bits 0 name.number then about code x ∷ [] else []) lines.old lines.new }
+    ensures added { Connected set.old.bits 0 name.number set.new.bits }
 {
     if !set.insert(name) {
-        lines.put(q, code, NONE, name);
+        lines.put(q, code, NONE, name.number);
     }
 }
 
@@ -28,20 +27,18 @@ pub fn repeated_name(set: &mut NameSet, name: u64, code: u64, q: Spot, lines: &m
 pub fn redeclare(
     scope: &mut Scope,
     table: usize,
-    name: u64,
+    name: NameId,
     at: usize,
     code: u64,
     q: Spot,
     lines: &mut Lines,
 )
-    requires { (table ≤ 2560) × (name < 512) × (at < 4096) }
-    ensures noted { (num : Name → ℕ) (x : Name) → num x ≡ name → Noted num q (if eqb (get_or scope.old.entries (name + table) 0) 0 then [] else about code x ∷ []) lines.old lines.new }
-    ensures entered { scope.new.entries ≡ with scope.old.entries (name + table) (at + 1) }
+    requires { (table ≤ 2560) × (at < 4096) }
+    ensures noted { (num : Name → ℕ) (x : Name) → num x ≡ name.number → Noted num q (if eqb (get_or scope.old.entries (name.number + table) 0) 0 then [] else about code x ∷ []) lines.old lines.new }
+    ensures entered { scope.new.entries ≡ with scope.old.entries (name.number + table) (at + 1) }
 {
-    let i = name as usize + table;
-    let before = scope.entries[i];
-    scope.entries[i] = at as u64 + 1;
-    if before != 0 {
-        lines.put(q, code, NONE, name);
+    if scope.declared(table, name).is_some() {
+        lines.put(q, code, NONE, name.number);
     }
+    scope.declare(table, name, at);
 }

@@ -13,8 +13,9 @@ ghost use Rattle.staging.specs.Steps.{no_lines, fitting, overfull, counted, Begu
 
 use input::check_input;
 use lines::Lines;
+use loops::GRAPH;
 use lustre::{Answer, Records};
-use project::{GRAPH, report, report_blank};
+use project::{report, report_blank};
 
 // What stands in the work memory: the answer of the call, the number of names, how many lines are to be stored in all, the number of the
 // first line that stands there, and how many do.
@@ -92,6 +93,7 @@ fn begin(records: &Records, names: u64, work: &mut [u64], room: usize) -> Batch
 }
 
 // The first batch: a refusal of what is lent, the report without lines on a blank file, or the first lines of the report.
+// Kept: kinds and words are two parameters, since C lends them so.
 pub fn first_batch(kinds: &[u8], words: &[u64], text: &[u8], work: &mut [u64], room: usize) -> Batch
     requires { room < 2 ^ 63 }
     ensures { Batched kinds.now words.now text.now work.old room result work.new × (result.at ≡ 0) }
@@ -104,9 +106,11 @@ pub fn first_batch(kinds: &[u8], words: &[u64], text: &[u8], work: &mut [u64], r
 }
 
 // The batch after one whose lines are stored, while lines are due.
-pub fn next_batch(kinds: &[u8], words: &[u64], work: &mut [u64], b: Batch) -> Batch
-    requires { Going kinds.now words.now work.old b }
-    ensures { (g : Going kinds.now words.now work.old b) → Batched kinds.now words.now g.text g.lent g.room result work.new × (result.at ≡ b.at + b.count) }
+pub fn next_batch(records: &Records, work: &mut [u64], b: Batch) -> Batch
+    requires { Going records.now.kinds.now records.now.words.now work.old b }
+    ensures { (g : Going records.now.kinds.now records.now.words.now work.old b)
+        → Batched records.now.kinds.now records.now.words.now g.text g.lent g.room result work.new
+        × (result.at ≡ b.at + b.count) }
 {
     let at = b.at + b.count;
     let c = Batch { at, count: 0, ..b };
@@ -120,6 +124,6 @@ pub fn next_batch(kinds: &[u8], words: &[u64], work: &mut [u64], b: Batch) -> Ba
         first: at as u64,
         count: 0,
     };
-    report(&Records { kinds, words }, c.names, &mut graph, &mut lines);
+    report(records, c.names, &mut graph, &mut lines);
     count(c, work.len())
 }

@@ -9,9 +9,6 @@ ghost use Rattle.standing.specs.Owed.{owes as owes_of, There};
 
 use lustre::{Records, kinds};
 
-// The first kind of a binary operator.
-const FIRST_BINARY: u8 = kinds::MINUS + 1;
-
 // The number of parts that follow a record of a type or an expression; a call, a struct and an iterator owe their list, and a cast its
 // type beside its operand.
 #[tactic(auto, unfolding(crate::specs::Owed::owed, crate::specs::Owed::owes))]
@@ -22,7 +19,7 @@ pub fn owes(kind: u8, word: u64) -> u64
     match kind {
         kinds::LIST | kinds::TUPLE | kinds::ARRAY => word,
         kinds::IF => 3,
-        FIRST_BINARY..=kinds::SHIFT_RIGHT => 2,
+        kinds::AND..=kinds::SHIFT_RIGHT => 2,
         kinds::ARROW | kinds::INDEX | kinds::CAST | kinds::MERGE => 2,
         kinds::MAP_FROM | kinds::FOLD_FROM => 2,
         kinds::ARRAY_TYPE | kinds::NOT | kinds::MINUS => 1,
@@ -40,7 +37,7 @@ pub fn skip(records: &Records, at: usize) -> usize
 {
     let mut next = at;
     let mut left: u64 = 1;
-    // Kept: the walk ends where nothing is owed, so that no number of turns is known before it.
+    // Kept: the answer is where the walk ends; an iterator would hold the same two numbers and be run to its end.
     while left > 0 {
         left = left - 1 + owes(records.kinds[next], records.words[next]);
         next += 1;

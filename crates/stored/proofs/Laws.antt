@@ -1,4 +1,4 @@
--- Laws of `laid` (specs/Laid.antt): as many lines as before, and a line read of its six words.
+-- Laws of `lines_in` (specs/Lines.antt): a line is read of its six words.
 -- Assumes nothing.
 use mathlib.Core.Path.{◌≡◌, refl, ap, ◌∙◌}
 use Prim.Native.Nat.{ℕ, zero, suc, ◌+◌, ◌*◌, ◌/◌, ◌<◌, ◌≤◌}
@@ -6,16 +6,13 @@ use native.Mathlib.Omega.{arith}
 use mathlib.Core.List.{List}
 use native.Mathlib.Nat.{add-zero}
 use native.Mathlib.Numerals.{add-one}
-use lib.ListN.{length, length-set, set, get_or, take, drop}
+use lib.ListN.{length, set, get_or, take, drop}
+use Rattle.std.proofs.lemmas.List.{take_more_set}
 use lib.Seq.{drop-drop, get_or-take, get_or-drop}
 use Rattle.std.specs.Simd.{first_chunks}
 use Rattle.lustre.specs.declared.Line.{Line}
 use Rattle.lines.specs.Lines.{line_in}
-use Rattle.stored.specs.Laid.{laid}
-
-pub length_laid : (ys : List Line) (at : ℕ) (fs : List ℕ) (k : ℕ) → length (laid ys at fs k) ≡ length ys
-length_laid ys at fs zero = refl
-length_laid ys at fs (suc k) = length-set (laid ys at fs k) (at + k) (line_in fs k) ∙ length_laid ys at fs k
+use Rattle.stored.specs.Lines.{lines_in}
 
 -- the i-th six words
 six_at : (n i : ℕ) (fs d : List ℕ) → i < n → get_or (first_chunks 6 n fs) i d ≡ take 6 (drop (i * 6) fs)
@@ -44,7 +41,7 @@ line_of_six i fs =
     }
 
 -- one line more
-pub laid_more : (ys zs : List Line) (at k : ℕ) (fs d : List ℕ) (sixes : List (List ℕ)) (l : Line) → zs ≡ laid ys at fs k → sixes ≡ first_chunks 6 (length fs / 6) fs → k * 6 + 6 ≤ length fs → l ≡ line_in (get_or sixes k d) 0 → set zs (at + k) l ≡ laid ys at fs (k + 1)
-laid_more ys zs at k fs d sixes l h chunks long e =
+pub one_more : (ls : List Line) (k : ℕ) (fs d : List ℕ) (sixes : List (List ℕ)) (l : Line) → take k ls ≡ lines_in k fs → sixes ≡ first_chunks 6 (length fs / 6) fs → k < length ls → k * 6 + 6 ≤ length fs → l ≡ line_in (get_or sixes k d) 0 → take (k + 1) (set ls k l) ≡ lines_in (k + 1) fs
+one_more ls k fs d sixes l h chunks inside long e =
     let is : l ≡ line_in fs k = e ∙ ap (λ xs. line_in (get_or xs k d) 0) chunks ∙ ap (λ xs. line_in xs 0) (six_at (length fs / 6) k fs d (omega arith)) ∙ line_of_six k fs in
-    rw (h, is, add-one)
+    rw (take_more_set, h, is, add-one) refl

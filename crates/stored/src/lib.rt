@@ -3,9 +3,9 @@
 // is stored past what is asked.
 #![tactic(auto)]
 
-ghost use Rattle.std.specs.Prelude.{◌≡◌, ◌<◌, ◌+◌, ◌*◌, ◌≤◌, length};
+ghost use Rattle.std.specs.Prelude.{◌≡◌, ◌*◌, ◌≤◌, length};
 ghost use Rattle.lines.specs.Lines.{line_in};
-ghost use Rattle.stored.specs.Laid.{laid};
+ghost use Rattle.stored.specs.Lines.{lines_in};
 
 use lustre::Line;
 
@@ -25,14 +25,15 @@ fn line_of(words: [u64; 6]) -> Line
     }
 }
 
-// Stores the first `count` lines of the flat buffer from place `at` on.
-// Kept: the flat buffer is the lent work memory, words that serve other steps of the call, since no memory of its own is allowed.
-pub fn fill(lines: &mut [Line], at: usize, count: usize, flat: &[u64])
-    requires { (at + count ≤ length lines.old) × (count * 6 ≤ length flat.now) }
-    ensures { lines.new ≡ laid lines.old at flat.now count }
+// Stores as many lines of the flat buffer as there are places.
+// Kept: the buffer is flat, since it is the lent work memory, words that serve other steps too: a call has no memory of its own.
+// Kept: the lines are counted, since the library doesn't say what a `zip` over `iter_mut` leaves in the slice.
+pub fn fill(lines: &mut [Line], flat: &[u64])
+    requires { length lines.old * 6 ≤ length flat.now }
+    ensures { lines.new ≡ lines_in (length lines.old) flat.now }
 {
     let (sixes, _) = flat.as_chunks::<6>();
-    for i in 0..count {
-        lines[at + i] = line_of(sixes[i]);
+    for (i, line) in lines.iter_mut().enumerate() {
+        *line = line_of(sixes[i]);
     }
 }

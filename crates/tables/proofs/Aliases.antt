@@ -26,7 +26,7 @@ use Rattle.scope.specs.Model.{Model}
 use Rattle.lustre.specs.Line.{Line, at_type, about}
 use Rattle.lustre.specs.Resolve.{context, try_resolve}
 use Rattle.lustre.specs.Report.{line, alias_numbers, alias_line, alias_lines}
-use Rattle.types.specs.Scope.{Targets, is_some, NameResolves}
+use Rattle.types.specs.Scope.{is_some, NameResolves}
 use Rattle.rules.specs.World.{Found}
 use Rattle.rules.proofs.Laws.{found_not, found, false_true}
 use Rattle.scope.specs.Writes.{Reports}
@@ -56,10 +56,6 @@ line_there a none i h e = rw e
 line_there a (some t) i h e = false_true (sym h)
 
 module _ {ks ws sc nums : List ℕ} (g : TypesHere ks ws sc nums) where
-  -- the entries of aliases lead to types
-  pub targets_here : Targets ks ws sc
-  targets_here = (types_targets g.tables).0
-
   module _ (name : ℕ) (small : name < 512) where
     -- what the table of numbers says of a name
     entry : Found (λ (p i : ℕ). p ≡ i) (get_or nums name 0) (lookup (g.model.text name) (alias_numbers 0 (all_types (skeleton g.model.P))))

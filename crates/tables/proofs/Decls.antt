@@ -152,24 +152,41 @@ module _ {ks ws : List ℕ} {at : ℕ} (g : TypeGiven ks ws at) where
   pub head : DeclHead (records g.model) at g.d
   head = decl_head (records g.model) at g.d g.stands
 
+  -- the enum at the record
+  pub enum_at : (get_or ks at 0 ≡ 4 → ⊥) → (get_or ks at 0 ≡ 5 → ⊥) → EnumHere (records g.model) at g.d
+  enum_at a b = enum_here (records g.model) at g.d g.stands a b
+
+  -- and what its variants ask
+  abbrev pub enum_given : EnumHere (records g.model) at g.d → EnumGiven ws at
+  enum_given N = record { ks = ks; model = g.model; x = decl_name g.d; vs = N.vs; stands = rw N.same at g.stands }
+
+module _ {ks ws : List ℕ} {at : ℕ} (g : TypeGiven ks ws at) {w : ℕ} (word : w ≡ get_or ws at 0) where
+  -- it is a name's number
+  small : w < 512
+  small = rw word (head g).name.small
+
+  -- its text is the type's name
+  named : g.model.text w ≡ decl_name g.d
+  named = rw word (head g).name.text
+
   -- the number of its name
-  pub name_number : g.model.number (decl_name g.d) ≡ get_or ws at 0
-  name_number = ap g.model.number (sym head.name.text) ∙ g.model.back (get_or ws at 0)
+  pub name_number : g.model.number (decl_name g.d) ≡ w
+  name_number = ap g.model.number (sym named) ∙ g.model.back w
 
   -- the set of names with this one
-  names_next : {known known' : List ℕ} (ds : List Decl) → Connected known 0 (get_or ws at 0) known' → Holds g.model.text (map decl_name ds) known → Holds g.model.text (map decl_name (ds ++ (g.d ∷ []))) known'
+  names_next : {known known' : List ℕ} (ds : List Decl) → Connected known 0 w known' → Holds g.model.text (map decl_name ds) known → Holds g.model.text (map decl_name (ds ++ (g.d ∷ []))) known'
   names_next ds c h =
       holds_same
-      (λ x. rw (map-append decl_name ds (g.d ∷ []), head.name.text) (sym (mem_snoc ◌is◌ x (decl_name g.d) (map decl_name ds))))
-      (holds_add (apart g.model) head.name.small c h)
+      (λ x. rw (map-append decl_name ds (g.d ∷ []), named) (sym (mem_snoc ◌is◌ x (decl_name g.d) (map decl_name ds))))
+      (holds_add (apart g.model) small c h)
 
   -- the line of the name
   first_line : {pack : ℕ} {q : Spot} {known : List ℕ} {o o₁ : Lines} (ds : List Decl) → Spotted q 0 pack
-      → Noted g.model.number q (if has known 0 (get_or ws at 0) then about 6 (decl_name g.d) ∷ [] else []) o o₁ → Holds g.model.text (map decl_name ds) known
+      → Noted g.model.number q (if has known 0 w then about 6 (decl_name g.d) ∷ [] else []) o o₁ → Holds g.model.text (map decl_name ds) known
       → (seen : List Name) → SameNames seen (map decl_name ds) → Reports g.model.number (if decl_name g.d among seen then line at_package pack (about 6 (decl_name g.d)) ∷ [] else []) o o₁
   unfolding place_number
   first_line {known = known} ds s d h seen same =
-      let e : has known 0 (get_or ws at 0) ≡ (decl_name g.d among seen) = h.each (get_or ws at 0) head.name.small ∙ ap (λ (y : Name). y among map decl_name ds) head.name.text ∙ sym (same (decl_name g.d)) in
+      let e : has known 0 w ≡ (decl_name g.d among seen) = h.each w small ∙ ap (λ (y : Name). y among map decl_name ds) named ∙ sym (same (decl_name g.d)) in
       repeated at_package 6 (decl_name g.d) (decl_name g.d among seen) s (rw e at d)
 
   -- what the call has entered and written
@@ -177,7 +194,7 @@ module _ {ks ws : List ℕ} {at : ℕ} (g : TypeGiven ks ws at) where
   DeclaredType pack number ds sc nums known o o' = Entered g.model (ds ++ (g.d ∷ [])) sc nums known × ((seen variants : List Name) → SameNames seen (map decl_name ds) → SameNames variants (map (λ e. e.0) (variants_of ds)) → Reports g.model.number (one_type pack number seen variants g.d) o o')
 
   module _ {pack number : ℕ} {q : Spot} {o o₁ : Lines} {sc nums known known' : List ℕ} (ds : List Decl) (count : length ds ≡ number) (s : Spotted q 0 pack)
-      (d : Noted g.model.number q (if has known 0 (get_or ws at 0) then about 6 (decl_name g.d) ∷ [] else []) o o₁) (c : Connected known 0 (get_or ws at 0) known') (E : Entered g.model ds sc nums known) where
+      (d : Noted g.model.number q (if has known 0 w then about 6 (decl_name g.d) ∷ [] else []) o o₁) (c : Connected known 0 w known') (E : Entered g.model ds sc nums known) where
     -- no line behind that of the name
     name_only : variants_in g.d ≡ [] → (seen variants : List Name) → SameNames seen (map decl_name ds) → Reports g.model.number (one_type pack number seen variants g.d) o o₁
     unfolding repeated_variants
@@ -186,18 +203,17 @@ module _ {ks ws : List ℕ} {at : ℕ} (g : TypeGiven ks ws at) where
         (first_line ds s d E.names seen h)
 
     -- an alias
-    pub alias_entered : get_or ks at 0 ≡ 4 → length nums ≡ 512 → DeclaredType pack number ds (set sc (get_or ws at 0) (at + 1)) (set nums (get_or ws at 0) (number + 1)) known' o o₁
+    pub alias_entered : get_or ks at 0 ≡ 4 → length nums ≡ 512 → DeclaredType pack number ds (set sc w (at + 1)) (set nums w (number + 1)) known' o o₁
     unfolding variants_in
     alias_entered k room =
-        let w : ℕ = get_or ws at 0 in
         let A = alias_here (records g.model) at g.d g.stands g.shallow k in
-        let e : g.d ≡ Alias (g.model.text w) A.t = A.same ∙ ap (λ (x : Name). Alias x A.t) (sym head.name.text) in
+        let e : g.d ≡ Alias (g.model.text w) A.t = A.same ∙ ap (λ (x : Name). Alias x A.t) (sym named) in
         let G = alias_grown ds g.d (g.model.text w) A.t e in
         let z : w + 0 ≡ w = omega arith in
         let r : Numbers g.model (ds ++ (g.d ∷ [])) (set nums (w + 0) (number + 1)) =
-        rw (G.numbers, count) (row_set nums 0 w number (alias_numbers 0 ds) number (apart g.model) (omega (arith, head.name.small)) refl E.numbers) in (
+        rw (G.numbers, count) (row_set nums 0 w number (alias_numbers 0 ds) number (apart g.model) (omega (arith, small)) refl E.numbers) in (
           record {
-            tables = rw (G.aliases, G.fields, G.variants, append-nil (records_of ds), append-nil (variants_of ds)) (tables_alias w at A.t (apart g.model) head.name.small A.typed E.tables);
+            tables = rw (G.aliases, G.fields, G.variants, append-nil (records_of ds), append-nil (variants_of ds)) (tables_alias w at A.t (apart g.model) small A.typed E.tables);
             numbers = rw z at r;
             names = names_next ds c E.names;
           },
@@ -205,15 +221,14 @@ module _ {ks ws : List ℕ} {at : ℕ} (g : TypeGiven ks ws at) where
         )
 
     -- a record
-    pub record_entered : get_or ks at 0 ≡ 5 → DeclaredType pack number ds (set sc (get_or ws at 0 + 512) (at + 1)) nums known' o o₁
+    pub record_entered : get_or ks at 0 ≡ 5 → DeclaredType pack number ds (set sc (w + 512) (at + 1)) nums known' o o₁
     unfolding variants_in
     record_entered k =
-        let w : ℕ = get_or ws at 0 in
         let R = record_here (records g.model) at g.d g.stands g.shallow k in
-        let e : g.d ≡ Record (g.model.text w) R.fs = R.same ∙ ap (λ (x : Name). Record x R.fs) (sym head.name.text) in
+        let e : g.d ≡ Record (g.model.text w) R.fs = R.same ∙ ap (λ (x : Name). Record x R.fs) (sym named) in
         let G = record_grown ds g.d (g.model.text w) R.fs e in (
           record {
-            tables = rw (G.aliases, G.fields, G.variants, append-nil (aliases_of ds), append-nil (variants_of ds)) (tables_record w at R.fs (apart g.model) head.name.small R.listed E.tables);
+            tables = rw (G.aliases, G.fields, G.variants, append-nil (aliases_of ds), append-nil (variants_of ds)) (tables_record w at R.fs (apart g.model) small R.listed E.tables);
             numbers = rw (G.numbers, append-nil (alias_numbers 0 ds)) E.numbers;
             names = names_next ds c E.names;
           },
@@ -236,11 +251,3 @@ module _ {ks ws : List ℕ} {at : ℕ} (g : TypeGiven ks ws at) where
           λ seen variants h v.
               rw e (reports_append g.model.number (if decl_name g.d among seen then line at_package pack (about 6 (decl_name g.d)) ∷ [] else []) (repeated_variants number variants N.vs) (first_line ds s d E.names seen h) (D.1 variants v)),
         )
-
-  -- the enum at the record
-  pub enum_at : (get_or ks at 0 ≡ 4 → ⊥) → (get_or ks at 0 ≡ 5 → ⊥) → EnumHere (records g.model) at g.d
-  enum_at a b = enum_here (records g.model) at g.d g.stands a b
-
-  -- and what its variants ask
-  abbrev pub enum_given : EnumHere (records g.model) at g.d → EnumGiven ws at
-  enum_given N = record { ks = ks; model = g.model; x = decl_name g.d; vs = N.vs; stands = rw N.same at g.stands }

@@ -5,7 +5,7 @@ use native.Mathlib.Omega.{arith}
 use mathlib.Core.Path.{◌≡◌, refl, sym, ◌∙◌, ap, subst}
 use mathlib.Core.Bool.{Bool, true, false, ◌||◌}
 use mathlib.Core.List.{List, [], ◌∷◌, ◌++◌, map, map-append, append-nil, append_assoc}
-use lib.ListN.{length, get_or, replicate, length-append, length-replicate}
+use lib.ListN.{length, get_or, replicate, length-append}
 use Rattle.lustre.specs.Name.{Name, ◌is◌, ◌among◌}
 use Rattle.lustre.specs.Project.{Decl, Alias, Record, Enum, Package, decl_name, skeleton, all_types}
 use Rattle.lustre.specs.Resolve.{aliases_of, records_of, variants_of}
@@ -162,7 +162,3 @@ among_type i hs rest d e = rw e
 pub among_none : (i : ℕ) (hs : List Head) → hs ≡ [] → types_among i hs ≡ []
 unfolding types_among
 among_none i hs e = rw e
-
--- the length of a table of zeros
-pub zeros_length : {l : List ℕ} (n : ℕ) → l ≡ replicate n 0 → length l ≡ n
-zeros_length n e = ap length e ∙ length-replicate {A = ℕ} n 0

@@ -1,13 +1,13 @@
 -- The variants of an enum entered one by one.
 -- Assumes nothing.
 use Rattle.std.specs.Prelude.{if◌then◌else◌}
-use Prim.Native.Nat.{ℕ, ◌+◌, ◌<◌}
+use Prim.Native.Nat.{ℕ, ◌+◌, ◌-◌, ◌≤◌, ◌<◌}
 use native.Mathlib.Omega.{arith}
 use mathlib.Core.Path.{◌≡◌, refl, sym, ◌∙◌, ap}
 use mathlib.Core.Bool.{not}
 use mathlib.Core.List.{List, [], ◌∷◌, ◌++◌, map, append_assoc, append-nil}
 use lib.Dec.{eqb}
-use lib.ListN.{length, get_or, set}
+use lib.ListN.{length, get_or, set, take, drop}
 use Rattle.lustre.specs.Name.{Name, ◌among◌}
 use Rattle.lustre.specs.Types.{Ty}
 use Rattle.lustre.specs.Project.{Port, Heading}
@@ -19,8 +19,10 @@ use Rattle.lines.specs.declared.Spot.{Spot}
 use Rattle.lines.specs.declared.Lines.{Lines}
 use Rattle.standing.specs.Standing.{Source, EachAt, MentionAt, one_record, DeclAt, RecAt, NameAt, NamesAt}
 use Rattle.rules.specs.World.{EnumAt}
+use Rattle.scope.specs.Names.{NamesHere}
 use Rattle.scope.specs.Tables.{records, Tables}
 use Rattle.scope.specs.Writes.{Reports}
+use Rattle.scope.proofs.Names.{names_inside, names_many, first_at}
 use Rattle.scope.proofs.Rows.{tables_variant, found_among}
 use Rattle.scope.proofs.World.{apart}
 use Rattle.scope.proofs.Writes.{reports_none, reports_append}
@@ -47,6 +49,22 @@ module _ {ws : List ℕ} {at : ℕ} (g : EnumGiven ws at) where
   unfolding DeclAt
   enum_list = g.stands.2
 
+  -- the same as a list of names
+  pub enum_names : NamesHere ws (at + 1)
+  enum_names = record { ks = g.ks; text = g.model.text; xs = g.vs; listed = enum_list }
+
+  -- which lie within the words
+  pub variants_inside : at + 2 + get_or ws (at + 1) 0 ≤ length ws
+  variants_inside = omega (arith, names_inside enum_names)
+
+  -- the word with index i of the part that has them
+  pub variant_word : (i : ℕ) → i < get_or ws (at + 1) 0 → get_or (take (at + 2 + get_or ws (at + 1) 0 - (at + 2)) (drop (at + 2) ws)) i 0 ≡ get_or ws (at + 2 + i) 0
+  variant_word i h = let z : at + 1 + 1 ≡ at + 2 = omega arith in rw z at (first_at enum_names {k = get_or ws (at + 1) 0} i h)
+
+  -- and how many they are
+  pub variant_count : length (take (at + 2 + get_or ws (at + 1) 0 - (at + 2)) (drop (at + 2) ws)) ≡ get_or ws (at + 1) 0
+  variant_count = let z : at + 1 + 1 ≡ at + 2 = omega arith in rw z at (names_many enum_names)
+
   -- what an entry for one of its variants leads to
   enum_here : EnumAt here at g.x
   enum_here = record { head = enum_head; name = enum_name }
@@ -57,13 +75,9 @@ module _ {ws : List ℕ} {at : ℕ} (g : EnumGiven ws at) where
     pub many : left ≡ length rest
     pub items : EachAt (MentionAt here) one_record rest next
 
-  -- the variants one by one
-  pub list_items : EachAt (MentionAt here) one_record g.vs (at + 2)
-  list_items = let z : at + 1 + 1 ≡ at + 2 = omega arith in rw z at enum_list.items
-
   -- at first all are
-  abbrev pub left_start : {left : ℕ} → left ≡ get_or ws (at + 1) 0 → Left left (at + 2)
-  left_start e = record { rest = g.vs; many = e ∙ enum_list.many; items = list_items }
+  abbrev pub left_start : {left : ℕ} → left ≡ get_or ws (at + 1) 0 → Left left (at + 2 + 0)
+  left_start e = let z : at + 1 + 1 ≡ at + 2 + 0 = omega arith in record { rest = g.vs; many = e ∙ enum_list.many; items = rw z at enum_list.items }
 
   -- a variant and the rest
   pub record First (left next : ℕ) (rest : List Name) : Type 0 where
@@ -75,8 +89,8 @@ module _ {ws : List ℕ} {at : ℕ} (g : EnumGiven ws at) where
     pub items : EachAt (MentionAt here) one_record later (next + 1)
 
   -- those behind it
-  abbrev pub left_next : {left left' next : ℕ} {rest : List Name} → First left next rest → left' + 1 ≡ left → Left left' (next + 1)
-  left_next F e = record { rest = F.later; many = omega (arith, F.many); items = F.items }
+  abbrev pub left_next : {left left' next next' : ℕ} {rest : List Name} → First left next rest → left' + 1 ≡ left → next + 1 ≡ next' → Left left' next'
+  left_next F e n = record { rest = F.later; many = omega (arith, F.many); items = rw n at F.items }
 
   -- where some are left there is a first
   pub left_first : {left next : ℕ} (l : Left left next) → 0 < left → First left next l.rest

@@ -59,7 +59,6 @@ pub record TypesHere (ks ws sc nums : List ℕ) : Type 0 where
   pub model : Model ks ws
   pub tables : TablesOf (records model) (all_types (skeleton model.P)) [] [] [] sc
   pub numbers : Numbers model (all_types (skeleton model.P)) nums
-  pub room : length nums ≡ 512
 
 -- the line of one alias, if it has one
 abbrev pub one_alias : {ks ws : List ℕ} → Model ks ws → Name → List Line

@@ -16,11 +16,13 @@ ghost use Rattle.tables.specs.Entered.{SameNames, EnumGiven, TypeGiven, Numbers,
 
 use lines::{Lines, Spot};
 use loops::NameSet;
-use lustre::{AT_ENUM, AT_NODE, AT_PACKAGE, AT_TYPE, NONE, Records, codes, kinds};
+use lustre::{AT_ENUM, AT_NODE, AT_PACKAGE, AT_TYPE, NAMES, NONE, NameId, Records, codes, kinds};
 use scope::{redeclare, repeated_name};
-use types::{Context, Scope};
+use types::context::{Context, Scope};
 
 // Enters the variants of the enum at a record, with a line for each that has been declared before: E0007. `number` is the enum's.
+#[tactic(auto, using(crate::proofs::Variants::variants_inside))]
+// Kept: what stands in the records is asked, here and below, and is no ghost fact: it is data, and a ghost fact has one proof alone.
 fn declare_variants(words: &[u64], scope: &mut Scope, at: usize, number: u64, lines: &mut Lines)
     requires { EnumGiven words.now at }
     ensures { (g : EnumGiven words.now at) (as' : List (Name × Ty)) (rs : List (Name × List Port)) (us : List (Name × Name)) (cs : List (Name × Ty))
@@ -29,27 +31,20 @@ fn declare_variants(words: &[u64], scope: &mut Scope, at: usize, number: u64, li
         SameNames seen (map (λ e. e.0) us) → Reports g.model.number (repeated_variants number seen g.vs) lines.old lines.new) }
 {
     let q = Spot::about(AT_ENUM, number);
-    let mut next = at + 2;
-    for _ in 0..words[at + 1] {
-        redeclare(
-            scope,
-            Scope::VARIANTS,
-            words[next],
-            at,
-            codes::E0007,
-            q,
-            lines,
-        );
-        next += 1;
+    let count = words[at + 1] as usize;
+    for word in &words[at + 2..at + 2 + count] {
+        let name = NameId { number: *word };
+        redeclare(scope, Scope::VARIANTS, name, at, codes::E0007, q, lines);
     }
 }
 
 // Enters the type at a record, of a package, with a line where its name has been declared before: E0006. `number` is the type's, and
 // `numbers` has 1 and the number of the alias in force, by name number.
+// Kept: no options there, as in the scope, since they take twice the memory, which each call clears.
 fn declare_type(
     records: &Records,
     scope: &mut Scope,
-    numbers: &mut [u64],
+    numbers: &mut [u64; NAMES],
     names: &mut NameSet,
     at: usize,
     pack: u64,
@@ -57,7 +52,6 @@ fn declare_type(
     lines: &mut Lines,
 )
     requires stands { TypeGiven records.now.kinds.now records.now.words.now at }
-    requires room { length numbers.old ≡ 512 }
     requires few { number < 4096 }
     ensures { (g : TypeGiven records.now.kinds.now records.now.words.now at) (ds : List Decl) → length ds ≡ number →
         Entered g.model ds scope.old.entries numbers.old names.old.bits →
@@ -65,7 +59,7 @@ fn declare_type(
         SameNames seen (map decl_name ds) → SameNames variants (map (λ e. e.0) (variants_of ds)) →
         Reports g.model.number (one_type pack number seen variants g.d) lines.old lines.new) }
 {
-    let name = records.words[at];
+    let name = records.name(at);
     repeated_name(
         names,
         name,
@@ -73,19 +67,23 @@ fn declare_type(
         Spot::about(AT_PACKAGE, pack),
         lines,
     );
-    let i = name as usize;
     match records.kinds[at] {
         kinds::ALIAS => {
-            scope.entries[i + Scope::ALIASES] = at as u64 + 1;
-            numbers[i] = number + 1;
+            scope.declare(Scope::ALIASES, name, at);
+            numbers[name.number as usize] = number + 1;
         }
-        kinds::RECORD => scope.entries[i + Scope::RECORDS] = at as u64 + 1,
+        kinds::RECORD => scope.declare(Scope::RECORDS, name, at),
         _ => declare_variants(records.words, scope, at, number, lines),
     }
 }
 
 // Enters every type, in one pass, with E0006 and E0007 as met, lib.rs 138.
-pub fn declare_types(records: &Records, scope: &mut Scope, numbers: &mut [u64], lines: &mut Lines)
+pub fn declare_types(
+    records: &Records,
+    scope: &mut Scope,
+    numbers: &mut [u64; NAMES],
+    lines: &mut Lines,
+)
     requires model { Model records.now.kinds.now records.now.words.now }
     requires scope { scope.old.entries ≡ replicate 3072 0 }
     requires numbers { numbers.old ≡ replicate 512 0 }
@@ -117,29 +115,28 @@ pub fn declare_types(records: &Records, scope: &mut Scope, numbers: &mut [u64], 
 }
 
 // A line where the alias of a name number does not resolve: E0008, at the declaration in force.
-fn check_alias(ctx: &Context, numbers: &[u64], name: u64, lines: &mut Lines)
+fn check_alias(ctx: &Context, numbers: &[u64; NAMES], name: NameId, lines: &mut Lines)
     requires types { TypesHere ctx.now.records.kinds.now ctx.now.records.words.now ctx.now.scope.now.entries numbers.now }
-    requires small { name < 512 }
     ensures { (g : TypesHere ctx.now.records.kinds.now ctx.now.records.words.now ctx.now.scope.now.entries numbers.now) →
-        Reports g.model.number (one_alias g.model (g.model.text name)) lines.old lines.new }
+        Reports g.model.number (one_alias g.model (g.model.text name.number)) lines.old lines.new }
 {
-    let e = numbers[name as usize];
-    if e != 0 && !ctx.resolves(name) {
+    let e = numbers[name.number as usize];
+    if e != 0 && !ctx.resolves(name.number) {
         let q = Spot::about(AT_TYPE, e - 1);
-        lines.put(q, codes::E0008, NONE, name);
+        lines.put(q, codes::E0008, NONE, name.number);
     }
 }
 
 // The lines of the aliases that do not resolve, in name order, lib.rs 163.
-pub fn check_aliases(ctx: &Context, numbers: &[u64], names: u64, lines: &mut Lines)
+pub fn check_aliases(ctx: &Context, numbers: &[u64; NAMES], names: u64, lines: &mut Lines)
     requires types { TypesHere ctx.now.records.kinds.now ctx.now.records.words.now ctx.now.scope.now.entries numbers.now }
     requires few { names ≤ 512 }
     ensures { (g : TypesHere ctx.now.records.kinds.now ctx.now.records.words.now ctx.now.scope.now.entries numbers.now) → g.model.names ≡ names →
         AliasesBelow ctx.now.records.kinds.now ctx.now.records.words.now names → let s = skeleton g.model.P in let ns = alias_numbers 0 (all_types s) in
         Reports g.model.number (alias_lines (context s) ns (set_of (map (λ e. e.0) ns))) lines.old lines.new }
 {
-    for name in 0..names {
-        check_alias(ctx, numbers, name, lines);
+    for number in 0..names {
+        check_alias(ctx, numbers, NameId { number }, lines);
     }
 }
 
@@ -152,16 +149,13 @@ pub fn declare_nodes(records: &Records, scope: &mut Scope, lines: &mut Lines)
     let mut number = 0;
     for at in 1..records.kinds.len() {
         match records.kinds[at] {
-            kinds::CONSTANT => {
-                let i = records.words[at] as usize + Scope::CONSTANTS;
-                scope.entries[i] = at as u64 + 1;
-            }
+            kinds::CONSTANT => scope.declare(Scope::CONSTANTS, records.name(at), at),
             kinds::FUNCTION..=kinds::IMPORTED => {
                 let q = Spot::about(AT_NODE, number);
                 redeclare(
                     scope,
                     Scope::NODES,
-                    records.words[at],
+                    records.name(at),
                     at,
                     codes::E0001,
                     q,

@@ -3,14 +3,12 @@
 // The programs `edges` and `explained` are this on a file of their own.
 #![tactic(auto)]
 
-use cases::{LINES, Stop, fill, is_filled, is_zero, label, read_lines, read_part, read_size};
-use lustre::{Answer, Line};
+use cases::{FILE, Stop, fill, is_filled, is_zero, label, read_lines, read_part, read_size};
+use lustre::{Answer, LINES, Line};
 use std::io;
 use std::io::Read;
 
-// Room for a file of a few bytes more than any that is not refusal 1, and for what is printed.
-const FILE: usize = 60000;
-
+// Room for what is printed for a case.
 const TEXT: usize = 65536;
 
 // The most work words that a case is lent.
@@ -48,6 +46,7 @@ fn agrees(file: &[u8], work: usize, room: usize, text: &[u8], due: &[Line; LINES
 }
 
 // Reads the next case, runs it and prints what became of it.
+// Kept: plain arrays, of which `read_part` lends the filled part; an `ArrayVec` would be filled first.
 fn case(reader: &mut impl Read, rt: &impl Print) -> Result<(), Stop> {
     label(reader, rt)?;
     let work = read_size(reader)?;

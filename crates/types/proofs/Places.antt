@@ -10,7 +10,6 @@ use native.Mathlib.Nat.{add-zero}
 use lib.Dec.{eqb, ltb}
 use lib.ListN.{length, get_or, set, drop, drop_of_length-le}
 use lib.Seq.{drop-cons}
-use Rattle.std.specs.List.{prefix_len}
 use borrow.Author.Tests.{eq-eqb, ne_eqb, ltb-true, eqb-true, eqb-false}
 use Rattle.lustre.specs.Types.{Array, levels}
 use Rattle.types.specs.Value.{Naming, bottom, up, asTy}
@@ -98,12 +97,6 @@ module _ (ks ws : List ℕ) (at : ℕ) (p : IsTypeAt ks ws at) where
 suc_is : (n : ℕ) → 1 + n ≡ suc n
 suc_is n = omega arith
 
--- the arrays are the first kinds that are 32
-pub arrays_first : (ks : List ℕ) → prefix_len (λ k. eqb k 32) ks ≡ arraysIn ks
-unfolding arraysIn
-arrays_first [] = refl
-arrays_first (k ∷ ks) = rw (arrays_first ks, suc_is (arraysIn ks))
-
 -- past i of the arrays at a place stands a type with the others
 record Later (ks ws : List ℕ) (at i j : ℕ) : Type 0 where
   pub there : IsTypeAt ks ws j
@@ -145,6 +138,9 @@ module _ (ks ws : List ℕ) (at : ℕ) (p : IsTypeAt ks ws at) where
     last_kind : get_or ks last 0 ≡ 32 → ⊥
     last_kind = kind_bottom ks ws last last_there (omega (arith, (later last (omega arith) (omega arith)).left))
 
+    pub last_known : get_or ks last 0 ≡ 33 → get_or ws last 0 < 512
+    last_known = name_small ks ws last last_there last_kind
+
     pub last_type : (ρ : Naming) → ty_at ρ ks ws last ≡ bottom ρ (get_or ks last 0) (get_or ws last 0)
     last_type = type_bottom ks ws last last_there last_kind
 
@@ -159,11 +155,10 @@ module _ (ks ws : List ℕ) (at : ℕ) (p : IsTypeAt ks ws at) where
         ∙ sym (rw q at (inner_type ρ (last - (i + 1)) (omega arith) (omega arith))))
 
     -- what `read_type` has read
-    pub read_all : {t : Typ} → t.base ≡ get_or ks last 0 → t.name ≡ get_or ws last 0 → t.levels + at ≡ last →
+    pub read_all : {t : Typ} → t.levels + at ≡ last →
         ((ρ : Naming) → asTy ρ t ≡ ty_at ρ ks ws at) → Read ks ws at t (last + 1)
-    read_all {t} b n l f = record {
+    read_all {t} l f = record {
       few = omega (arith, p.few);
-      known = λ k. rw n (name_small ks ws last last_there last_kind (sym b ∙ k));
       is = f;
       after = λ ρ. omega (arith, levels_as ρ t, ap levels (f ρ));
     }

@@ -12,7 +12,7 @@ use lib.ListN.{get_or}
 use borrow.Author.Tests.{eq-eqb, ne_eqb}
 use Rattle.lustre.specs.Types.{Ty}
 use Rattle.lustre.specs.Resolve.{Aliases, array_of, follow_alias, or_itself, resolve}
-use Rattle.types.specs.Value.{Naming, bottom, up, asTy, Known, Around}
+use Rattle.types.specs.Value.{Naming, bottom, up, asTy, Around}
 use Rattle.types.specs.Place.{ty_at, Read}
 use Rattle.types.specs.Scope.{slot, target, Table, Tries, Resolves}
 use Rattle.types.specs.declared.Typ.{Typ}
@@ -85,25 +85,23 @@ module _ (ks ws sc : List ℕ) (ρ : Naming) (al : Aliases) (T : Table ρ al ks 
 pub record Trying (ks ws sc : List ℕ) (t u : Typ) (d : ℕ) : Type 0 where
   pub low : d ≤ 64
   pub few : u.levels ≤ d
-  pub known : Known t → Known u
   pub is : (ρ : Naming) (al : Aliases) → Table ρ al ks ws sc → by_depth al 65 (asTy ρ t) ≡ wrapped u.lengths u.levels (by_depth al (65 - d) (bottom ρ u.base u.name))
 
 module _ {ks ws sc : List ℕ} (t : Typ) where
   fails : ((ρ : Naming) (al : Aliases) → Table ρ al ks ws sc → by_depth al 65 (asTy ρ t) ≡ none) → Tries ks ws sc t None
-  fails h = record { few = tt; known = λ k. tt; is = λ ρ al T. sym (try_depth al (asTy ρ t) ∙ h ρ al T) }
+  fails h = record { few = tt; is = λ ρ al T. sym (try_depth al (asTy ρ t) ∙ h ρ al T) }
 
   pub too_long : 64 < t.levels → Tries ks ws sc t None
   too_long h = fails (λ ρ al T. type_around al ρ t 65 ∙ wrap_none t.lengths t.levels (no_levels al (65 - t.levels) _ (omega arith)))
 
   pub try_starts : t.levels ≤ 64 → Trying ks ws sc t t t.levels
-  try_starts h = record { low = h; few = omega arith; known = λ k. k; is = λ ρ al T. type_around al ρ t 65 }
+  try_starts h = record { low = h; few = omega arith; is = λ ρ al T. type_around al ρ t 65 }
 
   module _ {u : Typ} {d : ℕ} (q : Trying ks ws sc t u d) where
     ends : ((ρ : Naming) (al : Aliases) → Table ρ al ks ws sc → (f : ℕ) → by_depth al (suc f) (bottom ρ u.base u.name) ≡ some (bottom ρ u.base u.name)) → Tries ks ws sc t (Some u)
     unfolding wrapped asTy
     ends h = record {
       few = omega (arith, q.few, q.low);
-      known = q.known;
       is = λ ρ al T.
           let e : 65 - d ≡ suc (64 - d) = omega (arith, q.low) in
           sym (try_depth al (asTy ρ t) ∙ q.is ρ al T ∙ rw e (ap (wrapped u.lengths u.levels) (h ρ al T (64 - d))));
@@ -133,7 +131,6 @@ module _ {ks ws sc : List ℕ} (t : Typ) where
       enters o a = record {
         low = o;
         few = omega (arith, a.levels, q.few);
-        known = λ k b. rw a.name (r.known (sym a.base ∙ b));
         is = λ ρ al T. leads ρ al T ∙ wrap_around a _ ∙ rw (a.base, a.name);
       }
 
@@ -144,7 +141,6 @@ module _ {ks ws sc : List ℕ} (t : Typ) where
   unfolding by_depth wrapped or_itself asTy
   stays h = record {
     few = omega arith;
-    known = λ k. k;
     is = λ ρ al T. sym (resolve_depth al (asTy ρ t) ∙ ap (or_itself (asTy ρ t)) (type_around al ρ t 65) ∙ go ρ al T (65 - t.levels));
   }
     where
@@ -160,5 +156,5 @@ module _ {ks ws sc : List ℕ} (t : Typ) where
 
   pub resolved_or : (r : code.Option Typ) → Tries ks ws sc t r → Resolves ks ws sc t (unwrap_or r t)
   unfolding resolve or_itself
-  resolved_or (Some u) q = record { few = omega (arith, q.few); known = q.known; is = λ ρ al T. ap (or_itself (asTy ρ t)) (q.is ρ al T) }
-  resolved_or None q = record { few = omega arith; known = λ k. k; is = λ ρ al T. ap (or_itself (asTy ρ t)) (q.is ρ al T) }
+  resolved_or (Some u) q = record { few = omega (arith, q.few); is = λ ρ al T. ap (or_itself (asTy ρ t)) (q.is ρ al T) }
+  resolved_or None q = record { few = omega arith; is = λ ρ al T. ap (or_itself (asTy ρ t)) (q.is ρ al T) }

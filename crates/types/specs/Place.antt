@@ -3,7 +3,7 @@
 -- Assumes nothing: these are definitions.
 use Rattle.std.specs.Prelude.{ℕ, suc, ◌+◌, ◌<◌, ◌≤◌, ◌≡◌, Bool, true, false, ◌&&◌, List, [], ◌∷◌, eqb, leb, ltb, length, drop, if◌then◌else◌}
 use Rattle.lustre.specs.Types.{Ty, basic, Array, levels}
-use Rattle.types.specs.Value.{Naming, bottom, asTy, Known}
+use Rattle.types.specs.Value.{Naming, bottom, asTy}
 use Rattle.types.specs.declared.Typ.{Typ}
 
 -- the number of arrays at the start of the kinds
@@ -43,6 +43,5 @@ pub record Last (ks ws : List ℕ) (at r : ℕ) : Type 0 where
 -- what `read_type` answers: the type at a place, and the place behind it
 pub record Read (ks ws : List ℕ) (at : ℕ) (t : Typ) (next : ℕ) : Type 0 where
   pub few : t.levels ≤ 67
-  pub known : Known t
   pub is : (ρ : Naming) → asTy ρ t ≡ ty_at ρ ks ws at
   pub after : (ρ : Naming) → next ≡ at + levels (ty_at ρ ks ws at)

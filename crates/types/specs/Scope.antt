@@ -6,10 +6,9 @@ use Rattle.std.specs.Prelude.{ℕ, ◌+◌, ◌≤◌, max, ◌≡◌, Bool, tru
 use Rattle.std.proofs.Math.Option.{Option, none, some}
 use Rattle.lustre.specs.Types.{Ty, basic, Array, Named, Tuple}
 use Rattle.lustre.specs.Resolve.{Aliases, try_resolve, resolve, compatible}
-use Rattle.types.specs.Value.{Naming, Injective, bottom, asTy, maybe, Known}
+use Rattle.types.specs.Value.{Naming, Injective, bottom, asTy, maybe}
 use Rattle.types.specs.Place.{IsTypeAt, ty_at}
 use Rattle.types.specs.declared.Typ.{Typ}
-use Rattle.types.specs.declared.Context.{Context}
 use Rattle.types.specs.declared.aliases.Followed.{Followed}
 
 -- the entry of a name number; no number from 512 on has an alias
@@ -29,20 +28,14 @@ pub record Targets (ks ws sc : List ℕ) : Type 0 where
   pub room : 512 ≤ length sc
   pub stand : (n : ℕ) → (slot sc n ≡ 0 → ⊥) → IsTypeAt ks ws (slot sc n)
 
--- the same of the records and the scope of a context
-abbrev pub Led : Context → Type 0
-Led c = Targets c.records.kinds.now c.records.words.now c.scope.now.entries
-
 -- what `try_resolve` answers
 pub record Tries (ks ws sc : List ℕ) (t : Typ) (r : code.Option Typ) : Type 0 where
   pub few : IfSome r (λ u. u.levels ≤ 64)
-  pub known : Known t → IfSome r Known
   pub is : (ρ : Naming) (al : Aliases) → Table ρ al ks ws sc → maybe ρ r ≡ try_resolve al 65 [] (asTy ρ t)
 
 -- what `resolve` answers
 pub record Resolves (ks ws sc : List ℕ) (t r : Typ) : Type 0 where
   pub few : r.levels ≤ max 64 t.levels
-  pub known : Known t → Known r
   pub is : (ρ : Naming) (al : Aliases) → Table ρ al ks ws sc → asTy ρ r ≡ resolve al (asTy ρ t)
 
 -- the number of arrays around what is no array, and that

@@ -38,10 +38,6 @@ abbrev pub maybe : Naming → code.Option Typ → Option Ty
 maybe ρ None = none
 maybe ρ (Some t) = some (asTy ρ t)
 
--- the number of t's name, if t has one, is below 512
-abbrev pub Known : Typ → Type 0
-Known t = t.base ≡ 33 → t.name < 512
-
 -- the length of an array type
 abbrev pub outer : Typ → ℕ
 outer t = get_or t.lengths (t.levels - 1) 0

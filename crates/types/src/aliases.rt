@@ -2,11 +2,12 @@
 // Arrays and aliases share one depth of 64; an alias that leads to itself runs past it, so no set of the aliases entered is kept.
 ghost use Rattle.std.specs.Prelude.{◌≡◌, ◌≢◌, MatchOption};
 ghost use Rattle.types.specs.Value.{SameBasic};
-ghost use Rattle.types.specs.Scope.{slot, Led, Tries, Resolves, Follows, KindOf, Compares, NameResolves};
+ghost use Rattle.types.specs.Scope.{slot, Tries, Resolves, Follows, KindOf, Compares, NameResolves};
 
+use crate::Typ;
+use crate::context::Context;
 use crate::records::{last_of, read_type};
-use crate::{Context, NAMES, Typ};
-use lustre::kinds;
+use lustre::{NAMES, kinds};
 
 // The last depth at which a type is looked at, the whole type's being 0.
 const DEEPEST: usize = 64;
@@ -36,7 +37,6 @@ impl<'a> Context<'a> {
 
     // The type t without aliases, if it has one: what the aliases stand for goes inside t's lengths, alias by alias.
     pub fn try_resolve(&self, t: &Typ) -> Option<Typ>
-        requires { Led self.now }
         ensures { Tries self.now.records.kinds.now self.now.records.words.now self.now.scope.now.entries t.now result }
     {
         let mut depth = t.levels;
@@ -62,13 +62,12 @@ impl<'a> Context<'a> {
 
     // The type t without aliases, or t itself where it does not resolve.
     pub fn resolve(&self, t: &Typ) -> Typ
-        requires { Led self.now }
         ensures { Resolves self.now.records.kinds.now self.now.records.words.now self.now.scope.now.entries t.now result }
     {
         if t.base != kinds::NAMED || self.alias_at(t.name).is_none() {
             return *t;
         }
-        // Kept: `unwrap_or` would copy both types once more.
+        // Kept: a match, since `unwrap_or` takes both types by value.
         match self.try_resolve(t) {
             Some(u) => u,
             None => *t,
@@ -77,7 +76,6 @@ impl<'a> Context<'a> {
 
     // What the name n stands for, alias by alias as in `try_resolve`, the lengths only counted.
     fn follow(&self, n: u64) -> Option<Followed>
-        requires { Led self.now }
         ensures { Follows self.now.records.kinds.now self.now.records.words.now self.now.scope.now.entries n result }
     {
         let mut base = kinds::NAMED;
@@ -105,7 +103,6 @@ impl<'a> Context<'a> {
     // The kind of the basic type that t is once resolved. The lengths are not read.
     #[tactic(auto, using(crate::proofs::Follows::kinds))]
     pub fn basic_kind(&self, t: &Typ) -> Option<u8>
-        requires { Led self.now }
         ensures { KindOf self.now.records.kinds.now self.now.records.words.now self.now.scope.now.entries t.now result }
     {
         if t.levels != 0 {
@@ -125,16 +122,21 @@ impl<'a> Context<'a> {
     // Whether a and b are one type once resolved. That of two basic types, the most frequent, is told without a copy of either, and where
     // they are one type as they stand nothing needs to be resolved.
     pub fn compatible(&self, a: &Typ, b: &Typ) -> bool
-        requires { Led self.now }
         ensures { Compares self.now.records.kinds.now self.now.records.words.now self.now.scope.now.entries a.now b.now result }
     {
-        same_basic(a, b) || a.same(b) || self.resolve(a).same(&self.resolve(b))
+        same_basic(a, b) || a.same(b) || self.same_resolved(a, b)
+    }
+
+    // Whether a and b are one type once resolved. It stands apart, since a call that does not come here then makes no room for two types.
+    fn same_resolved(&self, a: &Typ, b: &Typ) -> bool
+        ensures { Compares self.now.records.kinds.now self.now.records.words.now self.now.scope.now.entries a.now b.now result }
+    {
+        self.resolve(a).same(&self.resolve(b))
     }
 
     // Whether the type of name number n resolves: what E0008 asks of an alias.
     #[tactic(auto, using(crate::proofs::Follows::name_resolves))]
     pub fn resolves(&self, n: u64) -> bool
-        requires { Led self.now }
         ensures { NameResolves self.now.records.kinds.now self.now.records.words.now self.now.scope.now.entries n result }
     {
         self.follow(n).is_some()
@@ -142,6 +144,7 @@ impl<'a> Context<'a> {
 }
 
 // Whether a and b are one basic type as they stand.
+// Kept: no derived `==`, which would tell one type apart by what does not count of its name and its lengths.
 #[tactic(auto, using(crate::proofs::Follows::basics_same))]
 fn same_basic(a: &Typ, b: &Typ) -> bool
     ensures { SameBasic a.now b.now result }

@@ -6,66 +6,45 @@
 #![tactic(auto)]
 
 pub mod aliases;
+pub mod context;
 pub mod literal;
 pub mod records;
 
-ghost use Rattle.std.specs.Prelude.{◌≤◌};
+ghost use Rattle.std.specs.Prelude.{◌≤◌, ◌<◌, ◌≡◌};
 
-use lustre::{Records, kinds};
+use lustre::{NameId, kinds};
 
 // The kind of a tuple type.
+// Kept: a number, here and of the next, as the base of a type is (`Typ`).
 pub const TUPLE: u8 = 34;
+
+// The kind of the type of no value.
+pub const UNIT: u8 = 35;
 
 // A type has at most so many lengths: a type in the records has at most 67, and each of an expression's 60 levels may put one around it.
 pub const MOST_LEVELS: usize = 127;
 
-// A name's number is below this, and each table of the scope has as many entries.
-pub const NAMES: usize = 512;
-
-// The entries of the scope's six tables.
-pub const ENTRIES: usize = 6 * NAMES;
-
 // A type: `levels` arrays around a basic or named type or a tuple. `name` is a name's number for kind 33, the number of members for 34,
 // and counts for no other; lengths from `levels` on do not count.
-// Kept: the base is a number, since it is a record's kind as it is lent, which an enum would have to be made from at each reading.
+// Kept: the base is a record's kind as it is lent, and no enum, which a match over 14 kinds would make at each reading of a type and each test
+// would take apart again.
 #[derive(Clone, Copy)]
 pub struct Typ {
     pub base: u8,
     pub name: u64,
     pub levels: usize,
-    // Kept: arrayvec's ArrayVec<u32, 127> is not Copy, as a type here has to be.
+    // Kept: arrayvec's ArrayVec<u32, 127> is not Copy, as a type has to be: an operand's type is also the operation's.
     pub lengths: [u32; MOST_LEVELS],
     pub ghost fits: { levels ≤ 127 },
+    // The number of a named type is a name's.
+    pub ghost known: { base ≡ 33 → name < 512 },
 }
 
-// What the names mean: six tables by name number. An entry is 0 where the name means nothing, else 1 and the number of the record that
-// declares it.
-// Kept: a table of options takes twice the memory, which a call on a project clears each time.
-#[derive(Drop)]
-pub struct Scope {
-    pub entries: [u64; ENTRIES],
-}
-
-impl Scope {
-    // Where each table begins.
-    pub const ALIASES: usize = 0;
-
-    pub const RECORDS: usize = NAMES;
-
-    pub const VARIANTS: usize = 2 * NAMES;
-
-    pub const CONSTANTS: usize = 3 * NAMES;
-
-    pub const NODES: usize = 4 * NAMES;
-
-    pub const PORTS: usize = 5 * NAMES;
-}
-
-// What an expression is judged by: all records, and what the names in them mean.
+// The type of what stands at a place, a type or an expression, and the place behind it.
 #[derive(Clone, Copy)]
-pub struct Context<'a> {
-    pub records: Records<'a>,
-    pub scope: &'a Scope,
+pub struct Typed {
+    pub typ: Typ,
+    pub next: usize,
 }
 
 impl Typ {
@@ -76,6 +55,7 @@ impl Typ {
     // The type of base kind k, with name number n.
     #[tactic(auto, unfolding(crate::specs::Value::asTy, crate::specs::Value::up))]
     pub fn bottom(k: u8, n: u64) -> Typ
+        requires { k ≡ 33 → n < 512 }
         ensures { Bottom k n result }
     {
         Typ {
@@ -84,6 +64,13 @@ impl Typ {
             levels: 0,
             lengths: [0; MOST_LEVELS],
         }
+    }
+
+    // The named type of a name.
+    pub fn named(name: NameId) -> Typ
+        ensures { Bottom 33 name.number result }
+    {
+        Typ::bottom(kinds::NAMED, name.number)
     }
 
     // The array of n of this type.
@@ -163,6 +150,7 @@ impl Typ {
     }
 
     // Whether the bases of this type and u, with their names, are one type.
+    // Kept: here and below no derived `==`, which would tell one type apart by what does not count of its name and its lengths.
     #[tactic(auto, using(crate::proofs::Values::bases))]
     fn same_bottom(&self, u: &Typ) -> bool
         ensures { (ρ : Naming) → Injective ρ → result ≡ same_type (bottom ρ self.now.base self.now.name) (bottom ρ u.now.base u.now.name) }

@@ -1,18 +1,19 @@
 // The types of literals: `fits_in_integer`, lib.rs 696, `integer_literal_type`, lib.rs 1477, and lib.rs 721 to 729. A literal's type is a
 // basic one, so it is given by its kind.
-ghost use Rattle.std.specs.Prelude.{◌≡◌};
+ghost use Rattle.std.specs.Prelude.{◌≡◌, option_copied};
 ghost use Rattle.std.proofs.Math.Option.{some};
 ghost use Rattle.lustre.specs.Types.{basic};
 ghost use Rattle.lustre.specs.Expr.{Literal};
 ghost use Rattle.lustre.specs.Grammar.{literal_kind};
 ghost use Rattle.lustre.specs.Literal.{fits, int32_type, integer_type, float_type, literal_type};
-ghost use Rattle.types.specs.Scope.{Led};
 ghost use Rattle.types.specs.Number.{number_of, KindIs, HintKind, Hinted};
 
-use crate::{Context, Typ};
+use crate::Typ;
+use crate::context::Context;
 use lustre::kinds;
 
 // A word's number in two's complement, under a minus if negated: 128 bits hold the minus of −2^63 too.
+// Kept: a function and no `From`, since a word and a sign are no type of their own.
 fn number(word: u64, negated: bool) -> i128
     ensures { result ≡ number_of negated word }
 {
@@ -53,17 +54,15 @@ fn int32_type(word: u64, negated: bool) -> Option<u8>
 impl<'a> Context<'a> {
     // The kind of the basic type that a hint is once resolved.
     #[tactic(auto, using(crate::proofs::Literals::no_hint, crate::proofs::Literals::some_hint))]
-    fn hinted_kind(&self, hint: Option<Typ>) -> Option<u8>
-        requires { Led self.now }
-        ensures { HintKind self.now.records.kinds.now self.now.records.words.now self.now.scope.now.entries hint result }
+    fn hinted_kind(&self, hint: Option<&Typ>) -> Option<u8>
+        ensures { HintKind self.now.records.kinds.now self.now.records.words.now self.now.scope.now.entries (option_copied hint.entry) result }
     {
-        self.basic_kind(&hint?)
+        self.basic_kind(hint?)
     }
 
     // The type of an integer literal, under a minus if negated: the resolved hint if the number fits it, else Int32 if it fits that.
-    pub fn integer_literal_type(&self, word: u64, negated: bool, hint: Option<Typ>) -> Option<u8>
-        requires { Led self.now }
-        ensures { Hinted self.now.records.kinds.now self.now.records.words.now self.now.scope.now.entries hint
+    pub fn integer_literal_type(&self, word: u64, negated: bool, hint: Option<&Typ>) -> Option<u8>
+        ensures { Hinted self.now.records.kinds.now self.now.records.words.now self.now.scope.now.entries (option_copied hint.entry)
             (λ al. integer_type al (number_of negated word)) result }
     {
         match self.hinted_kind(hint) {
@@ -74,9 +73,8 @@ impl<'a> Context<'a> {
 
     // The type of a float literal: Float32 if that is the resolved hint, else Float64.
     #[tactic(auto, using(crate::proofs::Literals::float_32, crate::proofs::Literals::float_64))]
-    fn float_literal_type(&self, hint: Option<Typ>) -> Option<u8>
-        requires { Led self.now }
-        ensures { Hinted self.now.records.kinds.now self.now.records.words.now self.now.scope.now.entries hint
+    fn float_literal_type(&self, hint: Option<&Typ>) -> Option<u8>
+        ensures { Hinted self.now.records.kinds.now self.now.records.words.now self.now.scope.now.entries (option_copied hint.entry)
             (λ al h. some (float_type al h)) result }
     {
         match self.hinted_kind(hint) {
@@ -86,10 +84,9 @@ impl<'a> Context<'a> {
     }
 
     // The type of the literal of record kind k, 40 to 43, with its word.
-    pub fn literal_type(&self, k: u8, word: u64, hint: Option<Typ>) -> Option<u8>
-        requires { Led self.now }
+    pub fn literal_type(&self, k: u8, word: u64, hint: Option<&Typ>) -> Option<u8>
         ensures { (l : Literal) → literal_kind l ≡ k →
-            Hinted self.now.records.kinds.now self.now.records.words.now self.now.scope.now.entries hint (λ al. literal_type al l word) result }
+            Hinted self.now.records.kinds.now self.now.records.words.now self.now.scope.now.entries (option_copied hint.entry) (λ al. literal_type al l word) result }
     {
         match k {
             kinds::BOOL_LITERAL => Some(kinds::BOOL),

@@ -1,29 +1,24 @@
 // Types in the records: kind 32 is an array, its word the length, and its element's type follows; any other kind ends the type.
 ghost use Rattle.types.specs.Place.{IsTypeAt, Last, Read};
 
-use crate::{MOST_LEVELS, Typ};
+use crate::{MOST_LEVELS, Typ, Typed};
 use lustre::{Records, kinds};
-
-// A type and the place behind it.
-#[derive(Drop)]
-pub struct TypeRead {
-    pub typ: Typ,
-    pub next: usize,
-}
 
 // The last record of the type at a place.
 pub fn last_of(records: &Records, at: usize) -> usize
     requires { IsTypeAt records.now.kinds.now records.now.words.now at }
     ensures { Last records.now.kinds.now records.now.words.now at result }
 {
-    at + records.kinds[at..]
-        .iter()
-        .take_while(|k| **k == kinds::ARRAY_TYPE)
-        .count()
+    // Kept: with `take_while` and `count` wide structs took a sixth more instructions (docs/PERFORMANCE.md).
+    let mut last = at;
+    while records.kinds[last] == kinds::ARRAY_TYPE {
+        last += 1;
+    }
+    last
 }
 
 // The type at a place: at most 67 lengths, the last record's first.
-pub fn read_type(records: &Records, at: usize) -> TypeRead
+pub fn read_type(records: &Records, at: usize) -> Typed
     requires { IsTypeAt records.now.kinds.now records.now.words.now at }
     ensures { Read records.now.kinds.now records.now.words.now at result.typ result.next }
 {
@@ -39,7 +34,7 @@ pub fn read_type(records: &Records, at: usize) -> TypeRead
         levels,
         lengths,
     };
-    TypeRead {
+    Typed {
         typ,
         next: last + 1,
     }

@@ -6,9 +6,6 @@ use Rattle.body.specs.Body.{reading_kind}
 use Rattle.body.proofs.Collects.{with_none, with_one}
 use Rattle.body.proofs.note_read.Goals as goal
 
-pub insert-requires : goal.insert-requires
-insert-requires c = c.requires (sym c.is_read.ensures ∙ c.if-is_read.true)
-
 pub returns-then-is_read : goal.returns-then-is_read
 returns-then-is_read c =
     let e : reading_kind c.args.kind ≡ true = sym c.is_read.ensures ∙ c.if-is_read.true in

@@ -1,10 +1,14 @@
 -- A batch has its place in the lines, and the next one moves the loop on; at the end all lines are stored.
-use Rattle.std.proofs.Common.{◌≡◌, arith}
+use Rattle.std.proofs.Common.{◌≡◌, ◌+◌, ◌-◌, arith, drop, length-take, length-drop}
 use Rattle.checker.proofs.Turns.{in_room, going, later, fewer, ended}
 use Rattle.checker.proofs.check_reader.Goals as goal
 
+pub slice_bounds-fill-end : goal.slice_bounds-fill-end
+slice_bounds-fill-end c = in_room c.loop-b.invariant
+
 pub fill-requires : goal.fill-requires
-fill-requires c = (in_room c.loop-b.invariant, c.loop-b.invariant.batched.fits)
+fill-requires c =
+    omega (arith, length-take (c.loop-b.b.at + c.loop-b.b.count - c.loop-b.b.at) (drop c.loop-b.b.at c.loop-b.lines), length-drop c.loop-b.b.at c.loop-b.lines, in_room c.loop-b.invariant, c.loop-b.invariant.batched.fits)
 
 pub loop-b-smaller : goal.loop-b-smaller
 loop-b-smaller c =

@@ -3,13 +3,10 @@ use mathlib.Core.Path.{sym, ◌∙◌}
 use Rattle.lustre.specs.Project.{skeleton}
 use Rattle.lustre.specs.Resolve.{context}
 use Rattle.lines.proofs.Laws.{noted_none, noted_about}
-use Rattle.scope.proofs.World.{apart, types_targets}
+use Rattle.scope.proofs.World.{apart}
 use Rattle.constants.proofs.Values.{value_fits, value_unfit}
 use Rattle.constants.proofs.Given.{name_number, alias_table}
 use Rattle.constants.proofs.check_fits.Goals as goal
-
-pub compatible-requires : goal.compatible-requires
-compatible-requires c = (types_targets c.requires.declared).0
 
 pub bounds-ctx-at : goal.bounds-ctx-at
 bounds-ctx-at c = c.requires.stands.head.in_words

@@ -4,7 +4,7 @@ use mathlib.Core.Path.{sym, ◌∙◌}
 use Rattle.lustre.specs.Project.{skeleton}
 use Rattle.lustre.specs.Resolve.{context}
 use Rattle.lines.proofs.Laws.{noted_none, noted_bare, noted_about}
-use Rattle.scope.proofs.World.{apart, types_targets}
+use Rattle.scope.proofs.World.{apart}
 use Rattle.equations.proofs.Types.{one, one_number, alias_table, bound_members, bound_not_one, bound_alone, one_free, one_fits, one_unfit}
 use Rattle.equations.proofs.check_bound.Goals as goal
 
@@ -16,9 +16,6 @@ pub returns-then-words-list-ne1 : goal.returns-then-words-list-ne1
 returns-then-words-list-ne1 c = λ g e.
     rw (bound_not_one (context (skeleton g.left.scoped.model.P)) g.left.scoped.env _ _ (c.in_default.ensures g.left.scoped.model.text) g.left.xs (λ z. c.if-words-list-ne1.true (g.left.listed.many ∙ z)))
     (noted_bare c.put.ensures)
-
-pub compatible-requires : goal.compatible-requires
-compatible-requires c = (types_targets c.requires.left.scoped.declared).0
 
 pub bounds-words-list-then-not-compatible : goal.bounds-words-list-then-not-compatible
 bounds-words-list-then-not-compatible c = (one c.requires.left c.if-words-list-ne1.false).head.in_words

@@ -1,7 +1,7 @@
 -- `equations::check_known` meets its contract. Assumes nothing.
 use mathlib.Core.Path.{sym, ◌∙◌}
 use Rattle.lines.proofs.Laws.{noted_none, noted_about}
-use Rattle.equations.proofs.Types.{free_entry}
+use Rattle.scope.proofs.Rows.{free_entry}
 use Rattle.equations.proofs.check_known.Goals as goal
 
 pub returns-then-is_none : goal.returns-then-is_none

@@ -3,5 +3,5 @@
 use Rattle.equations.proofs.Assigned.{Assigning}
 use Rattle.equations.proofs.check_names.Given as goal
 
-abbrev pub invariant-loop-name : goal.invariant-loop-name
-invariant-loop-name l = Assigning l.name-items l.ctx.scope.now.entries l.ins.bits l.initial.assigned.bits l.q l.initial.lines l.name-index l.assigned.bits l.lines
+abbrev pub invariant-loop-word : goal.invariant-loop-word
+invariant-loop-word l = Assigning l.word-items l.ctx.scope.now.entries l.ins.bits l.initial.assigned.bits l.q l.initial.lines l.word-index l.assigned.bits l.lines

@@ -2,15 +2,11 @@
 -- Assumes nothing.
 use Rattle.lines.proofs.Laws.{noted_none, noted_about}
 use Rattle.rules.proofs.Places.{type_there}
-use Rattle.scope.proofs.World.{types_targets}
 use Rattle.equations.proofs.Outputs.{output_free, output_fits, output_unfit}
 use Rattle.equations.proofs.check_output.Goals as goal
 
 pub read_type-requires : goal.read_type-requires
-read_type-requires c = type_there c.requires.output.typed
-
-pub compatible-requires : goal.compatible-requires
-compatible-requires c = (types_targets c.requires.output.scoped.declared).0
+read_type-requires c = type_there c.requires.typed
 
 pub returns-then-not-compatible : goal.returns-then-not-compatible
 returns-then-not-compatible c = λ g.

@@ -4,5 +4,5 @@ use Rattle.equations.specs.Equations.{OutputsOf}
 use Rattle.equations.proofs.Outputs.{Judging}
 use Rattle.equations.proofs.check_outputs.Given as goal
 
-abbrev pub invariant-loop-name : goal.invariant-loop-name
-invariant-loop-name l = (g : OutputsOf l.ctx l.list l.outputs) → Judging g l.q l.initial.lines l.name-index l.port l.lines
+abbrev pub invariant-loop-word : goal.invariant-loop-word
+invariant-loop-word l = (g : OutputsOf l.ctx l.list l.outputs) → Judging l.ctx g l.q l.initial.lines l.word-iterator.a.rest.now l.word-iterator.b l.lines

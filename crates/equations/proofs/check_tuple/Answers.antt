@@ -1,6 +1,5 @@
 -- `equations::check_tuple` meets its contract: E0042 by the numbers, no line where the side is no call or its callee unknown, else what the
 -- outputs say. Assumes nothing.
-use native.Mathlib.Omega.{arith}
 use mathlib.Core.Path.{sym, ◌∙◌}
 use Rattle.lines.proofs.Laws.{noted_none, noted_bare}
 use Rattle.rules.proofs.Laws.{found_not}
@@ -16,24 +15,27 @@ bounds-records-start c = (outputs.side_record c.requires).in_kinds
 pub returns-then-records-start-ne-CALL : goal.returns-then-records-start-ne-CALL
 returns-then-records-start-ne-CALL c = λ g. rw (outputs.tuple_uncalled g c.if-members-records.false (outputs.side_uncalled g c.if-records-start-ne-CALL.true)) noted_none
 
-pub declared-requires : goal.declared-requires
-declared-requires c = (omega arith, (outputs.called c.requires c.if-records-start-ne-CALL.false).name.small)
+pub name-requires-clause-inside : goal.name-requires-clause-inside
+name-requires-clause-inside c = (outputs.side_record c.requires).in_words
+
+pub name-requires-clause-small : goal.name-requires-clause-small
+name-requires-clause-small c = (outputs.called c.requires c.if-records-start-ne-CALL.false).name.small
 
 pub ports_end-outputs-requires : goal.ports_end-outputs-requires
-ports_end-outputs-requires c = let g = c.requires in outputs.callee_inputs g (outputs.callee g c.if-records-start-ne-CALL.false _ c.in-Some.ensures.entry)
+ports_end-outputs-requires c = let g = c.requires in outputs.callee_inputs g (outputs.callee g c.if-records-start-ne-CALL.false _ (rw c.name.ensures at c.in-Some.ensures.entry))
 
 pub check_outputs-requires : goal.check_outputs-requires
 check_outputs-requires c =
     let g = c.requires in
-    let d = outputs.callee g c.if-records-start-ne-CALL.false _ c.in-Some.ensures.entry in
+    let d = outputs.callee g c.if-records-start-ne-CALL.false _ (rw c.name.ensures at c.in-Some.ensures.entry) in
     outputs.callee_outputs g d (c.ports_end-outputs.ensures (outputs.callee_inputs g d))
 
 pub returns-in-Some : goal.returns-in-Some
 returns-in-Some c = λ g.
-    let d = outputs.callee g c.if-records-start-ne-CALL.false _ c.in-Some.ensures.entry in
+    let d = outputs.callee g c.if-records-start-ne-CALL.false _ (rw c.name.ensures at c.in-Some.ensures.entry) in
     rw (outputs.tuple_called g d c.if-members-records.false) (c.check_outputs.ensures (outputs.callee_outputs g d (c.ports_end-outputs.ensures (outputs.callee_inputs g d))))
 
 pub returns-in_default : goal.returns-in_default
 returns-in_default c = λ g.
     let k = c.if-records-start-ne-CALL.false in
-    rw (outputs.tuple_uncalled g c.if-members-records.false (outputs.called_unknown g k (found_not (outputs.called_entry g k) c.in_default.ensures.entry))) noted_none
+    rw (outputs.tuple_uncalled g c.if-members-records.false (outputs.called_unknown g k (found_not (outputs.called_entry g k) (rw c.name.ensures at c.in_default.ensures.entry)))) noted_none

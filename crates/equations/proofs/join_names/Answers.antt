@@ -1,11 +1,8 @@
 -- `equations::join_names` meets its contract. The loop keeps `Joining` of proofs/Edges.antt: with edges from the names that are left the graph has
 -- those from all. Assumes nothing.
-use Rattle.equations.proofs.Names.{names_are}
-use Rattle.equations.proofs.Edges.{joining_start, joining_more, joining_done}
+use Rattle.scope.proofs.Names.{names_are}
+use Rattle.equations.proofs.Edges.{joining_more, joining_done}
 use Rattle.equations.proofs.join_names.Goals as goal
-
-pub loop-name-init : goal.loop-name-init
-loop-name-init c = joining_start
 
 pub loop-name-preserved : goal.loop-name-preserved
 loop-name-preserved c = joining_more c.loop-name.invariant c.loop-name-test.true c.join_row.ensures

@@ -8,7 +8,7 @@ pub loop-k-init : goal.loop-k-init
 loop-k-init c = joining_start c.args.graph.now c.args.a c.args.row.now.bits
 
 pub loop-k-preserved : goal.loop-k-preserved
-loop-k-preserved c = joining_more c.requires (omega (arith, c.loop-k-test.true)) c.loop-k.invariant
+loop-k-preserved c = joining_more (omega (arith, c.requires, c.told-graph)) (omega (arith, c.loop-k-test.true)) c.loop-k.invariant
 
 pub returns : goal.returns
 returns c = joining_done (omega (arith, c.loop-k-test.false)) c.loop-k.invariant

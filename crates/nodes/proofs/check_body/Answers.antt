@@ -3,30 +3,36 @@ use native.Mathlib.Omega.{arith}
 use Rattle.lustre.specs.Project.{skeleton}
 use Rattle.lustre.specs.Resolve.{context}
 use Rattle.scope.proofs.Sets.{holds_none}
-use Rattle.nodes.specs.Nodes.{NodeOpened, InCheck}
+use Rattle.scope.proofs.World.{tables_led}
 use Rattle.nodes.proofs.Body.{opened, body_reports}
 use Rattle.nodes.proofs.check_body.Goals.{After-open_node-lists}
 use Rattle.nodes.proofs.check_body.Goals as goal
 
-pub check_equations-probes-requires-clause-node : goal.check_equations-probes-requires-clause-node
-check_equations-probes-requires-clause-node c =
+pub invariant_of-ctx : goal.invariant_of-ctx
+invariant_of-ctx c =
     let g = c.requires.node.0 in
     let o = c.open_node-lists.ensures g (holds_none g.model.text c.new-ins.ensures) in
-    opened g o.declared o.lists
+    record { led = tables_led o.declared }
 
-pub close_node-looks-requires-clause-node : goal.close_node-looks-requires-clause-node
-close_node-looks-requires-clause-node c =
+pub check_equations-probes-requires : goal.check_equations-probes-requires
+check_equations-probes-requires c =
+    let g = c.requires.node.0 in
+    let o = c.open_node-lists.ensures g (holds_none g.model.text c.new-ins.ensures) in
+    record { node = opened g o.declared o.lists }
+
+pub close_node-looks-requires : goal.close_node-looks-requires
+close_node-looks-requires c =
     let g = c.requires.node.0 in
     let o = c.open_node-lists.ensures g (holds_none g.model.text c.new-ins.ensures) in
     let n = opened g o.declared o.lists in
     let e = c.check_equations-probes.ensures n c.requires.node.1 c.requires.spot.0 o.ins (holds_none g.model.text c.new-assigned.ensures) c.requires.blank in
     (n, omega (arith, e.next, o.lists.equations))
 
-pub clear_node-requires-clause-node : goal.clear_node-requires-clause-node
-clear_node-requires-clause-node c =
+pub clear_node-requires : goal.clear_node-requires
+clear_node-requires c =
     let g = c.requires.node.0 in
     let o = c.open_node-lists.ensures g (holds_none g.model.text c.new-ins.ensures) in
-    opened g o.declared o.lists
+    record { node = opened g o.declared o.lists }
 
 pub returns : goal.returns
 returns c = λ g f other.

@@ -2,8 +2,8 @@
 -- the edges are those of the node. Assumes nothing.
 use Prim.Native.Nat.{◌<◌}
 use native.Mathlib.Omega.{arith}
-use mathlib.Core.Path.{◌≡◌, refl, ◌∙◌}
-use lib.ListN.{length, get_or}
+use mathlib.Core.Path.{refl}
+use lib.ListN.{length}
 use Rattle.nodes.specs.Nodes.{InCheckOf}
 use Rattle.nodes.proofs.Equations.{list_here, ahead_start, ahead_next, given_first, here_first, checking_start, checking_next, checking_end}
 use Rattle.nodes.proofs.check_equations.Goals.{In-loop-equation}
@@ -16,10 +16,10 @@ more c g = omega (arith, c.loop-equation-test.true, (list_here g.node g.lists.eq
 pub loop-equation-init : goal.loop-equation-init
 loop-equation-init c = record { ahead = λ g. ahead_start g.node g.lists.equations; checking = λ g f p i s b. checking_start g.node _ _ _ g.lists.equations s b }
 
-pub add_edges-requires-clause-equation : goal.add_edges-requires-clause-equation
-add_edges-requires-clause-equation c =
+pub add_edges-requires : goal.add_edges-requires
+add_edges-requires c =
     let g = c.requires.node in
-    here_first g.node (c.loop-equation.invariant.ahead g) (more (goal.at.add_edges-requires-clause-equation c).In-loop-equation g)
+    here_first g.node (c.loop-equation.invariant.ahead g) (more (goal.at.add_edges-requires c).In-loop-equation g)
 
 pub check_equation-next-requires : goal.check_equation-next-requires
 check_equation-next-requires c =
@@ -39,4 +39,4 @@ loop-equation-preserved c =
 
 pub returns : goal.returns
 returns c = λ g f p i s b.
-    checking_end g.node _ _ _ (c.loop-equation.invariant.checking g f p i s b) (omega (arith, c.loop-equation-test.false, (list_here g.node g.lists.equations).many)) (c.loop-equation.auto.graph ∙ b.room)
+    checking_end g.node _ _ _ (c.loop-equation.invariant.checking g f p i s b) (omega (arith, c.loop-equation-test.false, (list_here g.node g.lists.equations).many))

@@ -14,7 +14,7 @@ pub redeclare-requires : goal.redeclare-requires
 redeclare-requires c =
     let b = walked_bounds c.loop-name.iterator.0 c.in-Some.ensures.steps in
     let e = ap (λ (r : Records). length r.kinds.now) c.loop-name.invariant.0 in
-    (omega arith, b.0, omega (arith, b.1, c.requires.1))
+    (omega arith, omega (arith, b.1, c.requires.1))
 
 pub loop-name-preserved : goal.loop-name-preserved
 loop-name-preserved c =

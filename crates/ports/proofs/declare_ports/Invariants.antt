@@ -7,5 +7,5 @@ use Rattle.ports.proofs.declare_ports.Given as goal
 
 abbrev pub invariant-loop-name : goal.invariant-loop-name
 invariant-loop-name l =
-    (l.ports.records.now ≡ l.fn.records)
+    (l.ports.records ≡ l.fn.records)
     × ((g : PortsOf l.fn.records l.list) → Injective g.text → Entering l.fn.records g l.ports l.code l.q l.initial.scope.entries l.initial.lines l.scope.entries l.lines)

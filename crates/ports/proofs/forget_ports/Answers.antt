@@ -6,7 +6,7 @@ pub loop-name-init : goal.loop-name-init
 loop-name-init c = λ g inj. rw c.into_iter-name-iterator.ensures.into_iter_gives (leaving_start g c.ports_of-name-items.ensures)
 
 pub loop-name-preserved : goal.loop-name-preserved
-loop-name-preserved c = λ g inj. leaving_next (c.loop-name.invariant g inj) inj c.in-Some.ensures.steps
+loop-name-preserved c = λ g inj. rw c.forget.ensures (leaving_next (c.loop-name.invariant g inj) inj c.in-Some.ensures.steps)
 
 pub returns : goal.returns
 returns c = λ g inj. leaving_end (c.loop-name.invariant g inj) c.in-None.ensures.steps

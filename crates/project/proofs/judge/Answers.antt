@@ -1,18 +1,15 @@
 -- `judge` meets its contract: lines that fit are a report, and more are refusal 7, by the laws of proofs/Closed.antt. Assumes nothing.
 use native.Mathlib.Omega.{arith}
 use mathlib.Core.Path.{refl}
-use lib.ListN.{length, length-take}
+use lib.ListN.{length}
 use Rattle.project.proofs.Closed.{judged_report, judged_more}
 use Rattle.project.proofs.Nodes.{blank_front}
 use Rattle.std.proofs.Common.{rules}
 use Rattle.std.specs.Prelude.{◌≡◌, replicate}
 use Rattle.project.proofs.judge.Goals as goal
 
-pub slice_bounds-report-end-2 : goal.slice_bounds-report-end-2
-slice_bounds-report-end-2 c = simp length-take (omega (arith, c.requires.room))
-
 pub report-looks-requires-clause-blank : goal.report-looks-requires-clause-blank
-report-looks-requires-clause-blank c = let z : c.fill.new.self ≡ replicate (length c.args.work.now) 0 = search rules in blank_front z (omega (arith, c.requires.room))
+report-looks-requires-clause-blank c = let z : c.fill.new.self ≡ replicate (length c.args.work.now) 0 = search rules in let e = rw c.unwrap-graph.ensures at c.first_chunk_mut.ensures.cases in rw e.same (blank_front z (omega (arith, c.requires.room)))
 
 pub returns-then-count-room-clause-judged : goal.returns-then-count-room-clause-judged
 returns-then-count-room-clause-judged c =

@@ -7,7 +7,7 @@ use Rattle.rules.proofs.agree_rule.Goals as goal
 
 pub returns-then-compatible : goal.returns-then-compatible
 unfolding agree_rule
-returns-then-compatible c = λ W. passed _ (agreed W _ _ c.compatible.ensures ∙ c.if-compatible.true) (returned _ (omega arith) c.requires.1 refl)
+returns-then-compatible c = λ W. passed _ (agreed W _ _ c.compatible.ensures ∙ c.if-compatible.true) (returned _ (omega arith) refl)
 
 pub returns : goal.returns
 unfolding agree_rule

@@ -21,4 +21,4 @@ unfolding cast_of
 returns c =
     λ W.
     passed _ (sym (c.resolves_within.ensures W) ∙ c.if-not-resolves_within.false)
-    (passed _ (sym (c.is_numeric.ensures W.text) ∙ c.if-not-is_numeric.false) (returned _ (omega arith) c.requires.1 refl))
+    (passed _ (sym (c.is_numeric.ensures W.text) ∙ c.if-not-is_numeric.false) (returned _ (omega arith) refl))

@@ -7,16 +7,16 @@ use Rattle.rules.proofs.clock_rule.Goals as goal
 
 pub returns-in_default : goal.returns-in_default
 unfolding clock clock_of
-returns-in_default c = λ W. rw (found_not (W.port _ c.requires.1) c.in_default.ensures.entry) (noted_named _ (W.back _) c.put.ensures)
+returns-in_default c = λ W. rw (found_not (W.port _ c.args.name.below) c.in_default.ensures.entry) (noted_named _ (W.back _) c.put.ensures)
 
 pub read_type-requires : goal.read_type-requires
-read_type-requires c = let W = c.requires.0 in type_there (found (W.port _ c.requires.1) c.in-Some.ensures.entry).there
+read_type-requires c = let W = c.requires in type_there (found (W.port _ c.args.name.below) c.in-Some.ensures.entry).there
 
 pub returns-then-not-is_truth : goal.returns-then-not-is_truth
 unfolding clock clock_of
 returns-then-not-is_truth c =
     λ W.
-    let w = found (W.port _ c.requires.1) c.in-Some.ensures.entry in
+    let w = found (W.port _ c.args.name.below) c.in-Some.ensures.entry in
     let t = read_is w.there c.read_type.ensures in
     rw (w.is, ← t.is, ← c.is_truth.ensures W, c.if-not-is_truth.true) (noted_named _ (W.back _) c.put-then-not-is_truth.ensures)
 
@@ -24,6 +24,6 @@ pub returns-else-not-is_truth : goal.returns-else-not-is_truth
 unfolding clock clock_of
 returns-else-not-is_truth c =
     λ W.
-    let w = found (W.port _ c.requires.1) c.in-Some.ensures.entry in
+    let w = found (W.port _ c.args.name.below) c.in-Some.ensures.entry in
     let t = read_is w.there c.read_type.ensures in
     rw (w.is, ← t.is, ← c.is_truth.ensures W, c.if-not-is_truth.false) noted_none

@@ -27,31 +27,31 @@ pub returns-in_default : goal.returns-in_default
 returns-in_default c =
     λ W.
     let b : c.resolve-s.result.base ≡ 33 = omega arith in
-    let none = found_not (W.fields _ (c.resolve-s.ensures.known c.requires.1 b)) c.in_default.ensures.entry in
+    let none = found_not (W.fields _ (c.resolve-s.result.known b)) c.in_default.ensures.entry in
     rw (resolved W c.resolve-s.ensures, rules.field_undeclared W.Γ c.args.at (W.text c.args.name) W.text c.resolve-s.result c.if-s-ne0.false b none)
     (failed_of _ (W.back _) c.fail-in_default.ensures)
 
 pub find_port-requires : goal.find_port-requires
-find_port-requires c = ports_led (found (c.requires.0.fields _ (c.resolve-s.ensures.known c.requires.1 (omega arith))) c.in-Some.ensures.entry)
+find_port-requires c = ports_led (found (c.requires.fields _ (c.resolve-s.result.known (omega arith))) c.in-Some.ensures.entry)
 
 pub returns-in_default-find_port : goal.returns-in_default-find_port
 returns-in_default-find_port c =
     λ W.
     let b : c.resolve-s.result.base ≡ 33 = omega arith in
-    let w = found (W.fields _ (c.resolve-s.ensures.known c.requires.1 b)) c.in-Some.ensures.entry in
+    let w = found (W.fields _ (c.resolve-s.result.known b)) c.in-Some.ensures.entry in
     rw (resolved W c.resolve-s.ensures, rules.field_missing W.Γ c.args.at (W.text c.args.name) W.text c.resolve-s.result c.if-s-ne0.false b w.is (c.in_default-find_port.ensures.port (ports_led w) (apart W)))
     (failed_of _ (W.back _) c.fail-in_default-find_port.ensures)
 
 pub read_type-requires : goal.read_type-requires
 read_type-requires c =
-    let W = c.requires.0 in
-    let w = found (W.fields _ (c.resolve-s.ensures.known c.requires.1 (omega arith))) c.in-Some.ensures.entry in
+    let W = c.requires in
+    let w = found (W.fields _ (c.resolve-s.result.known (omega arith))) c.in-Some.ensures.entry in
     type_there (c.in-Some-find_port.ensures.port (ports_led w) (apart W)).2
 
 pub returns : goal.returns
 returns c =
     λ W.
     let b : c.resolve-s.result.base ≡ 33 = omega arith in
-    let w = found (W.fields _ (c.resolve-s.ensures.known c.requires.1 b)) c.in-Some.ensures.entry in
+    let w = found (W.fields _ (c.resolve-s.result.known b)) c.in-Some.ensures.entry in
     let f = c.in-Some-find_port.ensures.port (ports_led w) (apart W) in
     rw (← c.resolve-s.ensures.is W.text W.Γ.alias W.alias) (gave (read_is f.2 c.read_type.ensures) (rules.field_there W.Γ _ _ W.text c.resolve-s.result c.if-s-ne0.false b w.is f.1))

@@ -24,4 +24,4 @@ returns c =
     let a = c.element.ensures in
     after (said_add refl (c.index_note.ensures W))
     (rw (resolved W s, rules.array_is (plain c.args.at 110) _ (a.is W.text))
-    (with (λ a. return a.1) _ (said_return _) (returned _ (omega (arith, a.levels, s.few)) (rules.element_known a (s.known c.requires.1)) refl)))
+    (with (λ a. return a.1) _ (said_return _) (returned _ (omega (arith, a.levels, s.few)) refl)))

@@ -4,7 +4,7 @@ use mathlib.Core.Logic.{inl, inr}
 use mathlib.Core.Path.{sym, ◌∙◌}
 use Rattle.lustre.specs.Infer.{operands, gives}
 use Rattle.types.specs.Value.{bottom}
-use Rattle.rules.proofs.Laws.{returned, returned_basic, refused, passed}
+use Rattle.rules.proofs.Laws.{returned, returned_bottom, refused, passed}
 use Rattle.rules.proofs.operands.Goals as goal
 
 pub returns-then-not-meets : goal.returns-then-not-meets
@@ -16,11 +16,11 @@ unfolding operands gives bottom
 returns-in-Logical c =
     λ W.
     passed _ (sym (c.meets.ensures W) ∙ c.if-not-meets.false)
-    (returned_basic c.bottom.ensures (λ z. omega arith) (elim c.in-Logical.is [ inl e ↦ rw e | inr d ↦ elim d [ inl e ↦ rw e | inr e ↦ rw e ] ]))
+    (returned_bottom c.bottom.ensures (elim c.in-Logical.is [ inl e ↦ rw e | inr d ↦ elim d [ inl e ↦ rw e | inr e ↦ rw e ] ]))
 
 pub returns-in-Arithmetic : goal.returns-in-Arithmetic
 unfolding operands gives
 returns-in-Arithmetic c =
     λ W.
     passed _ (sym (c.meets.ensures W) ∙ c.if-not-meets.false)
-    (returned _ (omega arith) c.requires.1 (elim c.in-Arithmetic.is [ inl e ↦ rw e | inr e ↦ rw e ]))
+    (returned _ (omega arith) (elim c.in-Arithmetic.is [ inl e ↦ rw e | inr e ↦ rw e ]))

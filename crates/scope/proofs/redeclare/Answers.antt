@@ -1,10 +1,13 @@
 -- `redeclare` meets its contract. Assumes nothing.
-use borrow.Author.Tests.{eq-eqb, ne_eqb}
+use mathlib.Core.Bool.{true, false}
+use mathlib.Core.Path.{sym, ◌∙◌}
 use Rattle.lines.proofs.Laws.{noted_none, noted_about}
+use Rattle.scope.proofs.Rows.{free_entry}
+use Rattle.scope.proofs.redeclare.Goals.{then-is_some, else-is_some}
 use Rattle.scope.proofs.redeclare.Goals as goal
 
-pub returns-then-before-ne0-clause-noted : goal.returns-then-before-ne0-clause-noted
-returns-then-before-ne0-clause-noted c = λ num x e. rw (ne_eqb _ 0 c.if-before-ne0.true) (noted_about x e c.put.ensures)
-
-pub returns-else-before-ne0-clause-noted : goal.returns-else-before-ne0-clause-noted
-returns-else-before-ne0-clause-noted c = λ num x e. rw (eq-eqb _ 0 c.if-before-ne0.false) noted_none
+pub returns-clause-noted : goal.returns-clause-noted
+returns-clause-noted c = λ num x e. elim c.if-is_some.branch [
+  | then-is_some w ↦ rw (free_entry _ _ false c.declared.ensures.entry (sym c.is_some.ensures ∙ w.if-is_some.true), w.lines-is) (noted_about x e w.put.ensures)
+  | else-is_some w ↦ rw (free_entry _ _ true c.declared.ensures.entry (sym c.is_some.ensures ∙ w.if-is_some.false), w.lines-is) noted_none
+]

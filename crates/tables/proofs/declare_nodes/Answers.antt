@@ -8,24 +8,17 @@ use Rattle.tables.proofs.declare_nodes.Goals.{in-9, in_default+then-this-lt9, in
 pub loop-at-init : goal.loop-at-init
 loop-at-init c = (omega arith, λ g. declaring_start g.model g.tables)
 
-pub overflow_add-i : goal.overflow_add-i
-overflow_add-i c = omega (arith, (constant_name c.requires.model (c.loop-at.invariant.1 c.requires) c.loop-at-test.true c.in-9.is).small)
+pub name-requires-clause-small : goal.name-requires-clause-small
+name-requires-clause-small c = (constant_name c.requires.model (c.loop-at.invariant.1 c.requires) c.loop-at-test.true c.in-9.is).small
 
-pub offset_bounds-scope-i : goal.offset_bounds-scope-i
-offset_bounds-scope-i c = omega (arith, (constant_name c.requires.model (c.loop-at.invariant.1 c.requires) c.loop-at-test.true c.in-9.is).small)
-
-pub bounds-scope-i : goal.bounds-scope-i
-bounds-scope-i c = omega (arith, (constant_name c.requires.model (c.loop-at.invariant.1 c.requires) c.loop-at-test.true c.in-9.is).small)
-
-pub redeclare-requires : goal.redeclare-requires
-redeclare-requires c =
-    (omega arith, (node_name c.requires.model (c.loop-at.invariant.1 c.requires) c.loop-at-test.true (omega arith) (omega arith)).small, omega (arith, c.loop-at-test.true, c.requires.model.few))
+pub name-requires-in-10-to-12-clause-small : goal.name-requires-in-10-to-12-clause-small
+name-requires-in-10-to-12-clause-small c = (node_name c.requires.model (c.loop-at.invariant.1 c.requires) c.loop-at-test.true (omega arith) (omega arith)).small
 
 pub loop-at-preserved : goal.loop-at-preserved
 loop-at-preserved c = elim c.match-records-at.branch [
-  | in-9 w ↦ rw (w.scope-is, w.lines-is, w.number-is) (omega arith, λ g. declaring_constant g.model (c.loop-at.invariant.1 g) c.loop-at-test.true w.in-9.is)
+  | in-9 w ↦ rw (w.scope-is, w.lines-is, w.number-is, w.declare.ensures, w.name.ensures) (omega arith, λ g. declaring_constant g.model (c.loop-at.invariant.1 g) c.loop-at-test.true w.in-9.is)
   | in_default+then-this-lt9 w ↦ rw (w.scope-is, w.lines-is, w.number-is) (omega arith, λ g. declaring_past g.model (c.loop-at.invariant.1 g) c.loop-at-test.true (λ e. omega arith) (λ a b. omega arith))
-  | in-10-to-12 w ↦ rw (w.scope-is, w.lines-is, w.number-is, w.redeclare.ensures.entered) (omega arith, λ g. declaring_node g.model (c.loop-at.invariant.1 g) c.loop-at-test.true (omega arith) (omega arith) (spotted w.about-q.ensures) (w.redeclare.ensures.noted g.model.number (g.model.text _) (g.model.back _)))
+  | in-10-to-12 w ↦ rw (w.scope-is, w.lines-is, w.number-is, w.redeclare.ensures.entered, w.name-in-10-to-12.ensures) (omega arith, λ g. declaring_node g.model (c.loop-at.invariant.1 g) c.loop-at-test.true (omega arith) (omega arith) (spotted w.about-q.ensures) (rw w.name-in-10-to-12.ensures at (w.redeclare.ensures.noted g.model.number (g.model.text _) (g.model.back _))))
   | in_default+else-this-lt9+else-this-lt13 w ↦ rw (w.scope-is, w.lines-is, w.number-is) (omega arith, λ g. declaring_past g.model (c.loop-at.invariant.1 g) c.loop-at-test.true (λ e. omega arith) (λ a b. omega arith))
 ]
 

@@ -7,4 +7,4 @@ use Rattle.loops.proofs.NameSet.contains.Goals as goal
 
 pub returns : goal.returns
 unfolding has bit
-returns c = let z : 8 * 0 + c.args.name / 64 ≡ c.args.name / 64 = omega arith in rw z refl
+returns c = let z : 8 * 0 + c.args.name.number / 64 ≡ c.args.name.number / 64 = omega arith in rw z refl

@@ -12,7 +12,7 @@ use Rattle.rules.proofs.IteratorLaws.{two_not, two_are}
 use Rattle.rules.proofs.iterators.fold_inputs.Goals as goal
 
 pub offset_bounds-ctx-list : goal.offset_bounds-ctx-list
-offset_bounds-ctx-list c = omega (arith, c.requires.1.listed.stand.head.in_words)
+offset_bounds-ctx-list c = omega (arith, c.requires.listed.stand.head.in_words)
 
 pub returns-then-ctx-list-ne2 : goal.returns-then-ctx-list-ne2
 unfolding iterate_as
@@ -22,13 +22,13 @@ returns-then-ctx-list-ne2 c =
     rw f.none (λ seed ds. rw (two_not (plain c.args.at 145) ps (λ e. c.if-ctx-list-ne2.true (p.stand.many ∙ e))) (said_stop _ refl (said_fail (noted_plain f.put))))
 
 pub read_type-a-requires : goal.read_type-a-requires
-read_type-a-requires c = type_there (pair c.requires.1 c.if-ctx-list-ne2.false).typed
+read_type-a-requires c = type_there (pair c.requires c.if-ctx-list-ne2.false).typed
 
 pub overflow_add-a : goal.overflow_add-a
-overflow_add-a c = let d = pair c.requires.1 c.if-ctx-list-ne2.false in omega (arith, read_next d.typed c.read_type-a.ensures, d.head.in_kinds)
+overflow_add-a c = let d = pair c.requires c.if-ctx-list-ne2.false in omega (arith, read_next d.typed c.read_type-a.ensures, d.head.in_kinds)
 
 pub read_type-requires : goal.read_type-requires
-read_type-requires c = let d = pair c.requires.1 c.if-ctx-list-ne2.false in type_there (pair_later c.requires.1 d (read_next d.typed c.read_type-a.ensures))
+read_type-requires c = let d = pair c.requires c.if-ctx-list-ne2.false in type_there (pair_later c.requires d (read_next d.typed c.read_type-a.ensures))
 
 pub returns-then-not-compatible : goal.returns-then-not-compatible
 unfolding iterate_as
@@ -56,7 +56,6 @@ returns c =
       are = rw (a.is, b.is) d.are;
       agree = agreed W _ _ c.compatible.ensures ∙ c.if-not-compatible.false;
       low = a.low;
-      known = a.known;
       low_elem = b.low;
       same = refl;
     }

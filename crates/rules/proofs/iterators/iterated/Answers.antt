@@ -15,13 +15,13 @@ unfolding iterate_rule if_found
 returns-in_default c =
     λ W.
     let f = c.fail.ensures in
-    rw f.none (λ k seed operands hint. rw (found_not (W.node _ c.requires.1) c.in_default.ensures.entry) (said_fail (noted_named _ (W.back _) f.put)))
+    rw f.none (λ k seed operands hint. rw (found_not (W.node _ c.args.name.below) c.in_default.ensures.entry) (said_fail (noted_named _ (W.back _) f.put)))
 
 pub returns-then-ctx-node-ne-FUNCTION : goal.returns-then-ctx-node-ne-FUNCTION
 unfolding iterate_rule iterate_of if_found
 returns-then-ctx-node-ne-FUNCTION c =
     λ W.
-    let w = found (W.node _ c.requires.1) c.in-Some.ensures.entry in
+    let w = found (W.node _ c.args.name.below) c.in-Some.ensures.entry in
     let f = c.fail-then-ctx-node-ne-FUNCTION.ensures in
     rw f.none
     (λ k seed operands hint.
@@ -29,37 +29,37 @@ returns-then-ctx-node-ne-FUNCTION c =
 
 pub offset_bounds-ctx-outputs : goal.offset_bounds-ctx-outputs
 offset_bounds-ctx-outputs c =
-    let w = (found (c.requires.0.node _ c.requires.1) c.in-Some.ensures.entry).there in
+    let w = (found (c.requires.node _ c.args.name.below) c.in-Some.ensures.entry).there in
     omega (arith, c.ports_end-outputs.ensures (inputs_here w), w.outputs.stand.head.in_words)
 
 pub bounds-ctx-outputs : goal.bounds-ctx-outputs
 bounds-ctx-outputs c =
-    let w = (found (c.requires.0.node _ c.requires.1) c.in-Some.ensures.entry).there in
+    let w = (found (c.requires.node _ c.args.name.below) c.in-Some.ensures.entry).there in
     omega (arith, c.ports_end-outputs.ensures (inputs_here w), w.outputs.stand.head.in_words)
 
 pub returns-then-ctx-outputs-ne1 : goal.returns-then-ctx-outputs-ne1
 unfolding iterate_rule iterate_of if_found
 returns-then-ctx-outputs-ne1 c =
     λ W.
-    let w = found (W.node _ c.requires.1) c.in-Some.ensures.entry in
+    let w = found (W.node _ c.args.name.below) c.in-Some.ensures.entry in
     let g = outputs_here w.there (c.ports_end-outputs.ensures (inputs_here w.there)) in
     let f = c.fail-then-ctx-outputs-ne1.ensures in
     rw f.none
     (λ k seed operands hint.
     rw w.is
     (said_then tt refl (said_pass _ (function_is w.a.kind (sym w.there.head.kind) c.if-ctx-node-ne-FUNCTION.false))
-    (rw (output_not (named c.args.at 142 (W.text c.args.name)) w.a.outputs (λ e. c.if-ctx-outputs-ne1.true (g.listed.stand.many ∙ e)))
+    (rw (output_not (named c.args.at 142 (W.text c.args.name.number)) w.a.outputs (λ e. c.if-ctx-outputs-ne1.true (g.listed.stand.many ∙ e)))
     (said_stop _ refl (said_fail (noted_named _ (W.back _) f.put))))))
 
 pub read_type-requires : goal.read_type-requires
 read_type-requires c =
-    let w = (found (c.requires.0.node _ c.requires.1) c.in-Some.ensures.entry).there in
+    let w = (found (c.requires.node _ c.args.name.below) c.in-Some.ensures.entry).there in
     type_there (only (outputs_here w (c.ports_end-outputs.ensures (inputs_here w))) c.if-ctx-outputs-ne1.false).typed
 
 pub returns : goal.returns
 returns c =
     λ W.
-    let w = found (W.node _ c.requires.1) c.in-Some.ensures.entry in
+    let w = found (W.node _ c.args.name.below) c.in-Some.ensures.entry in
     let o = only (outputs_here w.there (c.ports_end-outputs.ensures (inputs_here w.there))) c.if-ctx-outputs-ne1.false in
     let t = read_is o.typed c.read_type.ensures in
     record {
@@ -70,6 +70,5 @@ returns c =
       outputs = rw t.is o.are;
       inputs = w.there.inputs;
       low = t.low;
-      known = t.known;
       same = refl;
     }

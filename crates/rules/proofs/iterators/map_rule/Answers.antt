@@ -25,5 +25,4 @@ returns c =
     let t = c.array.ensures in
     passed _ (eq-eqb _ _ (a ∙ c.if-inputs-arrays.false ∙ sym b))
     (passed _ (sym f.agree ∙ c.if-not-kept.false)
-    (returned _ (omega (arith, t.levels)) (λ h. omega (arith, c.requires.1 (sym t.base ∙ h), t.name))
-    (ap return (rw (← c.len.ensures ρ ds f.first) (sym (t.is ρ))))))
+    (returned _ (omega (arith, t.levels)) (ap return (rw (← c.len.ensures ρ ds f.first) (sym (t.is ρ))))))

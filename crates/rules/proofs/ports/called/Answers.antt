@@ -10,13 +10,13 @@ use Rattle.rules.proofs.ports.called.Goals as goal
 pub returns-in_default : goal.returns-in_default
 unfolding call_rule if_found
 returns-in_default c =
-    λ W. rw c.fail.ensures.none (λ args hint many. rw (found_not (W.node _ c.requires.1) c.in_default.ensures.entry) (said_fail (noted_named _ (W.back _) c.fail.ensures.put)))
+    λ W. rw c.fail.ensures.none (λ args hint many. rw (found_not (W.node _ c.args.name.below) c.in_default.ensures.entry) (said_fail (noted_named _ (W.back _) c.fail.ensures.put)))
 
 pub returns-then-count-ctx : goal.returns-then-count-ctx
 unfolding call_rule call_of if_found
 returns-then-count-ctx c =
     λ W.
-    let w = found (W.node _ c.requires.1) c.in-Some.ensures.entry in
+    let w = found (W.node _ c.args.name.below) c.in-Some.ensures.entry in
     let f = c.fail-then-count-ctx.ensures in
     rw f.none (
     λ args hint many.
@@ -27,7 +27,7 @@ returns-then-count-ctx c =
 pub returns : goal.returns
 returns c =
     λ W.
-    let w = found (W.node _ c.requires.1) c.in-Some.ensures.entry in
+    let w = found (W.node _ c.args.name.below) c.in-Some.ensures.entry in
     record {
       sig = w.a;
       node = w.is;

@@ -3,5 +3,5 @@ use Rattle.rules.specs.World.{PortsOf}
 use Rattle.rules.proofs.StructLaws.{Missed}
 use Rattle.rules.proofs.structs.missing.Given as goal
 
-abbrev pub invariant-loop : goal.invariant-loop
-invariant-loop l = (g : PortsOf l.records l.list) → Missed l.records.kinds.now l.records.words.now l.list l.next l.counter g l.marks.bits l.step l.q l.initial.lines l.lines
+abbrev pub invariant-loop-name : goal.invariant-loop-name
+invariant-loop-name l = (g : PortsOf l.fn.records l.list) → Missed l.fn.records g l.name-iterator l.marks.bits l.step l.q l.initial.lines l.lines

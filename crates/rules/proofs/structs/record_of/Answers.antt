@@ -6,8 +6,8 @@ use Rattle.rules.proofs.Laws.{found_not, found}
 use Rattle.rules.proofs.structs.record_of.Goals as goal
 
 pub returns-in-Some : goal.returns-in-Some
-returns-in-Some c = λ W. let w = found (W.fields _ c.requires.1) c.in-Some.ensures.entry in record { fs = w.a; is = w.is; listed = w.there; same = refl }
+returns-in-Some c = λ W. let w = found (W.fields _ c.args.name.below) c.in-Some.ensures.entry in record { fs = w.a; is = w.is; listed = w.there; same = refl }
 
 pub returns-in-None : goal.returns-in-None
 unfolding struct_rule if_found
-returns-in-None c = λ W. rw c.fail.ensures.none (λ vs hint. rw (found_not (W.fields _ c.requires.1) c.in-None.ensures.entry) (said_fail (noted_named _ (W.back _) c.fail.ensures.put)))
+returns-in-None c = λ W. rw c.fail.ensures.none (λ vs hint. rw (found_not (W.fields _ c.args.name.below) c.in-None.ensures.entry) (said_fail (noted_named _ (W.back _) c.fail.ensures.put)))

@@ -5,7 +5,7 @@ use native.Mathlib.Omega.{arith}
 use mathlib.Core.Path.{◌≡◌, refl, sym}
 use lib.ListN.{length-set}
 use Rattle.types.specs.Value.{up, asTy}
-use Rattle.types.proofs.Places.{inner_small, last_type, read_more, read_all}
+use Rattle.types.proofs.Places.{inner_small, last_known, last_type, read_more, read_all}
 use Rattle.types.proofs.records.read_type.Goals as goal
 
 pub loop-i-init : goal.loop-i-init
@@ -23,6 +23,9 @@ loop-i-preserved c =
     let l = c.loop-i in
     record { room = simp length-set l.invariant.room; read = read_more _ _ _ c.requires _ c.last_of-last.ensures.behind l.lengths l.i (omega arith) c.loop-i-test.true l.invariant.read }
 
+pub invariant_of-typ-clause-known : goal.invariant_of-typ-clause-known
+invariant_of-typ-clause-known c = last_known _ _ _ c.requires _ c.last_of-last.ensures.behind
+
 pub returns : goal.returns
 unfolding asTy
 returns c =
@@ -30,4 +33,4 @@ returns c =
     let b = c.last_of-last.ensures.behind in
     let e : c.last_of-last.result - c.args.at ≡ l.i = omega arith in
     let z : c.last_of-last.result - l.i ≡ c.args.at = omega (arith, b) in
-    read_all _ _ _ c.requires _ b refl refl (omega (arith, b)) (λ ρ. rw e (rw z at (l.invariant.read ρ)))
+    read_all _ _ _ c.requires _ b (omega (arith, b)) (λ ρ. rw e (rw z at (l.invariant.read ρ)))

@@ -1,5 +1,4 @@
 -- `next` meets its contract. Assumes nothing.
-use Prim.Native.Nat.{◌-◌}
 use native.Mathlib.Omega.{arith}
 use mathlib.Core.Path.{refl, ◌∙◌}
 use Rattle.standing.proofs.Sizes.{no_items}
@@ -7,13 +6,16 @@ use Rattle.rules.proofs.Walks.{ahead}
 use Rattle.rules.proofs.walk.PortsIterator.next.Goals as goal
 
 pub returns-then-self-eq0-clause-steps : goal.returns-then-self-eq0-clause-steps
-returns-then-self-eq0-clause-steps c = record { records = refl; gave = (refl, λ ρ ps l. no_items ps (l.many ∙ c.if-self-eq0.true)) }
+returns-then-self-eq0-clause-steps c = record { records = refl; gave = (refl, refl, λ ρ ps l. no_items ps (l.many ∙ c.if-self-eq0.true)) }
 
 pub bounds-self-at : goal.bounds-self-at
 bounds-self-at c = (ahead c.requires.ps c.if-self-eq0.false c.requires.left).head.in_words
 
 pub offset_bounds-self-at : goal.offset_bounds-self-at
 offset_bounds-self-at c = let h = (ahead c.requires.ps c.if-self-eq0.false c.requires.left).head in omega arith
+
+pub invariant_of-name : goal.invariant_of-name
+invariant_of-name c = record { below = (ahead c.requires.ps c.if-self-eq0.false c.requires.left).name.small }
 
 pub overflow_add-at : goal.overflow_add-at
 overflow_add-at c = let h = (ahead c.requires.ps c.if-self-eq0.false c.requires.left).head in omega arith

@@ -1,9 +1,9 @@
--- `types::Context::literal_type` meets its contract, literal by literal. Assumes nothing.
+-- `types::context::Context::literal_type` meets its contract, literal by literal. Assumes nothing.
 use mathlib.Core.Path.{ap}
 use native.Mathlib.Omega.{arith}
 use Rattle.lustre.specs.Literal.{literal_type}
 use Rattle.types.proofs.Literals.{any_hint, literalOf, is_char, typed_as}
-use Rattle.types.proofs.Context.literal_type.Goals as goal
+use Rattle.types.proofs.context.Context.literal_type.Goals as goal
 
 pub returns-in-40 : goal.returns-in-40
 unfolding literalOf literal_type

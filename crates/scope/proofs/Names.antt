@@ -60,6 +60,10 @@ module _ {ws : List ℕ} {list : ℕ} (g : NamesHere ws list) where
   pub names_inside : list + 1 + get_or ws list 0 ≤ length ws
   names_inside = first_inside (omega arith)
 
+  -- and are as many as the list's word says
+  pub names_many : length (names_in ws list) ≡ get_or ws list 0
+  names_many = first_many (omega arith)
+
   -- their texts are the names
   pub names_are : map g.text (names_in ws list) ≡ g.xs
   names_are = let e : list + 1 + get_or ws list 0 - (list + 1) ≡ length g.xs = omega (arith, g.listed.many) in rw (e, names_stand.are)
@@ -70,4 +74,4 @@ module _ {ws : List ℕ} {list : ℕ} (g : NamesHere ws list) where
 
   -- and those of all
   pub names_small : (i : ℕ) → i < length (names_in ws list) → get_or (names_in ws list) i 0 < 512
-  names_small i h = first_small {k = get_or ws list 0} (omega arith) i (omega (arith, first_many {k = get_or ws list 0} (omega arith)))
+  names_small i h = first_small {k = get_or ws list 0} (omega arith) i (omega (arith, names_many))

@@ -1,8 +1,8 @@
--- `types::Context::resolve` meets its contract: a basic type and a name without alias stay. Assumes nothing.
+-- `types::context::Context::resolve` meets its contract: a basic type and a name without alias stay. Assumes nothing.
 use native.Mathlib.Omega.{arith}
 use Rattle.types.proofs.Tries.{basic_resolved, name_resolved, resolved_or}
-use Rattle.types.proofs.Context.resolve.Goals as goal
-use Rattle.types.proofs.Context.resolve.Goals.{then-t-ne-NAMED-via-then-t-ne-NAMED, then-t-ne-NAMED-via-else-t-ne-NAMED+then-is_none}
+use Rattle.types.proofs.context.Context.resolve.Goals as goal
+use Rattle.types.proofs.context.Context.resolve.Goals.{then-t-ne-NAMED-via-then-t-ne-NAMED, then-t-ne-NAMED-via-else-t-ne-NAMED+then-is_none}
 
 pub returns-then-t-ne-NAMED : goal.returns-then-t-ne-NAMED
 returns-then-t-ne-NAMED c =

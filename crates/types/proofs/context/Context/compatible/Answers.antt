@@ -1,11 +1,10 @@
--- `types::Context::compatible` meets its contract: types that are one type resolve to one type. Assumes nothing.
-use mathlib.Core.Path.{◌≡◌, sym, ap₂, ◌∙◌}
-use Rattle.lustre.specs.Types.{same_type}
+-- `types::context::Context::compatible` meets its contract: types that are one type resolve to one type. Assumes nothing.
+use mathlib.Core.Path.{◌≡◌, sym, ◌∙◌}
 use Rattle.lustre.specs.Resolve.{resolve, compatible}
 use Rattle.types.specs.Value.{asTy}
 use Rattle.types.proofs.Values.{type_self, type_same}
-use Rattle.types.proofs.Context.compatible.Goals as goal
-use Rattle.types.proofs.Context.compatible.Goals.{then-same_basic, else-same_basic}
+use Rattle.types.proofs.context.Context.compatible.Goals as goal
+use Rattle.types.proofs.context.Context.compatible.Goals.{then-same_basic, else-same_basic}
 
 pub returns-then-same : goal.returns-then-same
 unfolding compatible
@@ -20,4 +19,4 @@ returns-then-same c = λ ρ inj al T.
 
 pub returns-else-same : goal.returns-else-same
 unfolding compatible
-returns-else-same c = λ ρ inj al T. c.same-else-same.ensures ρ inj ∙ ap₂ same_type (c.resolve.ensures.is ρ al T) (c.resolve-else-same.ensures.is ρ al T)
+returns-else-same c = c.same_resolved.ensures

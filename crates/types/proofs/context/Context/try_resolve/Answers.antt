@@ -1,7 +1,7 @@
--- `types::Context::try_resolve` meets its contract. The invariant is `Trying`: what t gives is what u's bottom gives with the levels left,
+-- `types::context::Context::try_resolve` meets its contract. The invariant is `Trying`: what t gives is what u's bottom gives with the levels left,
 -- inside u's lengths. The measure is the levels left. Assumes nothing.
 use Rattle.types.proofs.Tries.{too_long, try_starts, basic_ends, name_ends, runs_out, enters}
-use Rattle.types.proofs.Context.try_resolve.Goals as goal
+use Rattle.types.proofs.context.Context.try_resolve.Goals as goal
 
 pub returns-then-depth-gt-DEEPEST : goal.returns-then-depth-gt-DEEPEST
 returns-then-depth-gt-DEEPEST c = too_long _ c.if-depth-gt-DEEPEST.true
