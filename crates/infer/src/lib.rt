@@ -32,6 +32,7 @@ use types::records::read_type;
 use types::{Typ, Typed};
 
 // A right-hand side: what it is judged by, and the records from its first on.
+// Kept: `equations` and `constants` write one out, since a function that makes it would ask and promise what each knows at its place.
 #[derive(Clone, Copy)]
 pub struct RightSide<'a> {
     pub ctx: Context<'a>,

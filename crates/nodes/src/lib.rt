@@ -210,6 +210,8 @@ fn check_imported(records: &Records, at: usize, q: Spot, lines: &mut Lines)
 
 // The lines of the node at a record, which is number `number`, and its looks. Neither the scope nor the graph holds anything of a node
 // before or after it.
+// Kept: records, scope, graph and path go one by one, since each is lent to other parts of a node's check; and that the graph is blank is
+// asked and promised, since in between it is not.
 pub fn check_node(
     records: &Records,
     scope: &mut Scope,

@@ -24,7 +24,7 @@ use tables::{check_aliases, declare_nodes, declare_types};
 use types::context::{Context, ENTRIES, Scope};
 
 // The lines of every constant, in one pass, lib.rs 262.
-// Kept: the project that stands in the records is asked, here and below, and is no ghost fact: it is data, and a ghost fact has one proof alone.
+// Kept: the project that stands in the records is asked, here and below, and is no ghost fact: it is data, and a ghost fact has one proof.
 fn check_constants(ctx: &Context, lines: &mut Lines)
     requires { ModelDeclaredOf ctx.now }
     ensures { (g : ModelDeclaredOf ctx.now) →
@@ -74,6 +74,7 @@ fn check_nodes(
 
 // The lines of the project's report and the number of edges followed. `names` is the number of names, and `graph` 4,096 zero words that are
 // lent to one node after another.
+// Kept: that the records hold a project, whose aliases are below `names`, is asked, here and below: it is of records and names together.
 pub fn report(records: &Records, names: u64, graph: &mut [u64; GRAPH], lines: &mut Lines) -> u64
     requires model { (g : Model records.now.kinds.now records.now.words.now) × (g.names ≡ names) }
     requires aliases { AliasesBelow records.now.kinds.now records.now.words.now names }
