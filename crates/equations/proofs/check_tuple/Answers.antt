@@ -15,14 +15,8 @@ bounds-records-start c = (outputs.side_record c.requires).in_kinds
 pub returns-then-records-start-ne-CALL : goal.returns-then-records-start-ne-CALL
 returns-then-records-start-ne-CALL c = λ g. rw (outputs.tuple_uncalled g c.if-members-records.false (outputs.side_uncalled g c.if-records-start-ne-CALL.true)) noted_none
 
-pub name-requires-clause-inside : goal.name-requires-clause-inside
-name-requires-clause-inside c = (outputs.side_record c.requires).in_words
-
 pub name-requires-clause-small : goal.name-requires-clause-small
 name-requires-clause-small c = (outputs.called c.requires c.if-records-start-ne-CALL.false).name.small
-
-pub ports_end-outputs-requires : goal.ports_end-outputs-requires
-ports_end-outputs-requires c = let g = c.requires in outputs.callee_inputs g (outputs.callee g c.if-records-start-ne-CALL.false _ (rw c.name.ensures at c.in-Some.ensures.entry))
 
 pub check_outputs-requires : goal.check_outputs-requires
 check_outputs-requires c =

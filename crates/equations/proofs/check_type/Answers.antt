@@ -10,9 +10,6 @@ use Rattle.infer.proofs.Sides as sides
 use Rattle.equations.proofs.Types.{sides_whole, said_then_noted, bound_nothing}
 use Rattle.equations.proofs.check_type.Goals as goal
 
-pub declared_type-declared-requires : goal.declared_type-declared-requires
-declared_type-declared-requires c = c.requires.left
-
 pub slice_bounds-side-count : goal.slice_bounds-side-count
 slice_bounds-side-count c = omega (arith, sides.side_inside (sides_whole {x = c.args.ctx.now} c.requires))
 

@@ -7,9 +7,6 @@ use Rattle.lines.proofs.Laws.{noted_bare}
 use Rattle.nodes.proofs.Opens.{inputs_here, outputs_here, locals_here, lists_end, equations_many, imported_none, imported_some}
 use Rattle.nodes.proofs.check_imported.Goals as goal
 
-pub ports_end-outputs-requires : goal.ports_end-outputs-requires
-ports_end-outputs-requires c = inputs_here c.requires.stands c.requires.shallow refl
-
 pub ports_end-locals-requires : goal.ports_end-locals-requires
 ports_end-locals-requires c = outputs_here c.requires.stands c.requires.shallow (c.ports_end-outputs.ensures (inputs_here c.requires.stands c.requires.shallow refl))
 

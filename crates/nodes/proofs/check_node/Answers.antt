@@ -5,12 +5,6 @@ use Rattle.lustre.specs.Resolve.{context}
 use Rattle.nodes.proofs.Body.{by_records, imported_reports, imported_looks, is_function_here, is_imported, not_imported}
 use Rattle.nodes.proofs.check_node.Goals as goal
 
-pub bounds-records-at : goal.bounds-records-at
-bounds-records-at c = c.requires.node.node.stands.head.in_kinds
-
-pub check_imported-requires : goal.check_imported-requires
-check_imported-requires c = by_records c.requires.node
-
 pub returns-then-kind-eq-IMPORTED : goal.returns-then-kind-eq-IMPORTED
 returns-then-kind-eq-IMPORTED c = λ g.
     let k = is_imported g c.if-kind-eq-IMPORTED.true in

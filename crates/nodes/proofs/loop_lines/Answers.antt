@@ -3,9 +3,6 @@
 use Rattle.nodes.proofs.Paths.{tracing_start, tracing_next, tracing_end}
 use Rattle.nodes.proofs.loop_lines.Goals as goal
 
-pub loop-step-init : goal.loop-step-init
-loop-step-init c = tracing_start
-
 pub loop-step-preserved : goal.loop-step-preserved
 loop-step-preserved c = tracing_next c.loop-step.invariant c.loop-step-test.true c.put.ensures
 

@@ -6,12 +6,6 @@ use Rattle.scope.proofs.World.{apart}
 use Rattle.nodes.proofs.Opens.{inputs_here, outputs_here, locals_here, opened}
 use Rattle.nodes.proofs.open_node.Goals as goal
 
-pub add_names-requires : goal.add_names-requires
-add_names-requires c = inputs_here c.requires.node.stands c.requires.node.shallow refl
-
-pub declare_ports-outputs-requires : goal.declare_ports-outputs-requires
-declare_ports-outputs-requires c = (inputs_here c.requires.node.stands c.requires.node.shallow refl, c.requires.model.few)
-
 pub declare_ports-locals-requires : goal.declare_ports-locals-requires
 declare_ports-locals-requires c =
     let g = c.requires in
