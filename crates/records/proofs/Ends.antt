@@ -11,9 +11,9 @@ use Rattle.lustre.specs.Grammar.{Class, Tree, Got, got, stuck}
 use Rattle.demands.specs.Reading.{reads}
 use Rattle.demands.proofs.ReadBack.{reads_back}
 use Rattle.demands.proofs.Reading.{flattens_back}
-use Rattle.std.proofs.Common.{Option, None, Ok, Err}
+use Rattle.std.proofs.Common.{Option, None, Result, Ok, Err}
 use Rattle.std.specs.Result.{IsOk}
-use Rattle.records.specs.Places.{Walk, go, Passed}
+use Rattle.records.specs.Places.{Walk, go, walk_to, Passed}
 use Rattle.records.specs.Stands.{Stands, PartAt, EndOf}
 use Rattle.records.specs.declared.Reached.{Reached}
 use Rattle.records.proofs.Agree.{Match, go_agree}
@@ -52,16 +52,21 @@ module _ (ρ : ℕ → Name) (ks ws : List ℕ) (same : length ks ≡ length ws)
 pub stands_under : (ρ σ : ℕ → Name) (ks ws : List ℕ) → length ks ≡ length ws → (c : Class) (v : Tree c) (at end : ℕ) → Stands ρ ks ws c v at end → (w : Tree c) × Stands σ ks ws c w at end
 stands_under ρ σ ks ws same c v at end s = let q = ends_there ρ ks ws same c 1 at None v end s in stands_there σ ks ws same c 1 at None (omega (arith, s.before, s.within)) end q.0 q.1
 
-module _ (ks ws : List ℕ) (c : Class) (at : ℕ) (a : PartAt ks ws c at) (r : Walk) (p : Passed ks ws ((c, 1) ∷ []) at None (at + 1) r) where
-  walked : go ks ws ((c, 1) ∷ []) at None ≡ r
-  walked = one_passed ks ws (c, 1) at None (at + 1) r p
+-- a walk that ends has said that all could stand
+said_ok : (e : Reached) (s : Result (Unit {0}) ℕ) (d : Reached) → walk_to e s ≡ Ok d → IsOk s
+said_ok e (Ok u) d q = refl
+said_ok e (Err p) d q = cc
+
+module _ (ks ws : List ℕ) (c : Class) (at : ℕ) (a : PartAt ks ws c at) (e : Reached) (s : Result (Unit {0}) ℕ) (p : Passed ks ws ((c, 1) ∷ []) at None (at + 1) (walk_to e s)) where
+  walked : go ks ws ((c, 1) ∷ []) at None ≡ walk_to e s
+  walked = one_passed ks ws (c, 1) at None (at + 1) (walk_to e s) p
 
   -- the walk ends where a tree that stands there does
-  walk_ends : (ρ : ℕ → Name) (v : Tree c) (end : ℕ) → Stands ρ ks ws c v at end → (d : Option ℕ) × (r ≡ Ok (record { next = end; deep = d }))
-  walk_ends ρ v end s = let t = ends_there ρ ks ws a.same c 1 at None v end s in (t.0, sym walked ∙ t.1)
+  walk_ends : (ρ : ℕ → Name) (v : Tree c) (end : ℕ) → Stands ρ ks ws c v at end → (d : Option ℕ) × (walk_to e s ≡ Ok (record { next = end; deep = d }))
+  walk_ends ρ v end t = let w = ends_there ρ ks ws a.same c 1 at None v end t in (w.0, sym walked ∙ w.1)
 
-  pub ended : (e : Reached) → r ≡ Ok e → EndOf ks ws c at e.next
-  ended e q ρ v end s = let z = (walk_ends ρ v end s).1 in cc
+  pub ended : (u : Unit {0}) → s ≡ Ok u → EndOf ks ws c at e.next
+  ended u q ρ v end t = let z = (walk_ends ρ v end t).1 in let y = ap (walk_to e) q in cc
 
-  pub ends : IsOk r
-  ends = rw (walk_ends (λ n. []) a.tree a.end a.stands).1 refl
+  pub ends : IsOk s
+  ends = said_ok e s _ (walk_ends (λ n. []) a.tree a.end a.stands).1

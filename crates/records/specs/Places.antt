@@ -78,6 +78,11 @@ abbrev pub after : List ℕ → List ℕ → List Want → Walk → Walk
 after ks ws st (Ok r) = go ks ws st r.next r.deep
 after ks ws st (Err p) = Err p
 
+-- the walk of a call that moved to r and says which record cannot stand, if one cannot
+abbrev pub walk_to : Reached → Result (Unit {0}) ℕ → Walk
+walk_to r (Ok u) = Ok r
+walk_to r (Err p) = Err p
+
 abbrev pub EndsIn : ℕ → ℕ → Walk → Type 0
 EndsIn from to (Ok r) = (from ≤ r.next) × (r.next ≤ to)
 EndsIn from to (Err p) = Unit {0}

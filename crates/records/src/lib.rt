@@ -10,7 +10,7 @@ ghost use Rattle.std.specs.Prelude.{◌≡◌, ℕ, ◌+◌, ◌<◌, ◌≤◌,
 ghost use Rattle.lustre.specs.Levels.{inner_of, too_deep};
 ghost use Rattle.lustre.specs.Records.{word_class, is_known, in_class, bad_record};
 ghost use Rattle.records.specs.Ranges.{judged, bad_from};
-ghost use Rattle.records.specs.Places.{class_of, wanted, mark, wants, Passed};
+ghost use Rattle.records.specs.Places.{class_of, wanted, mark, wants, walk_to, Passed};
 ghost use Rattle.records.specs.Stands.{PartAt, EndOf};
 ghost use Rattle.records.specs.Tables.{placed, Structured};
 
@@ -96,51 +96,58 @@ impl Reached {
 }
 
 impl<'a> Structure<'a> {
-    // Reads one part, or gives the record that cannot stand.
+    // Reads one part and moves past it, or gives the record that cannot stand. What is reached is lent, since copies of it would take more of
+    // the stack at each level.
     #[cycle(part)]
-    fn part(&self, want: Want, from: Reached) -> Result<Reached, usize>
-        requires inside { from.next ≤ length self.now.kinds.now }
-        requires level { want.level ≤ from.next + 1 }
-        ensures { Passed self.now.kinds.now self.now.words.now (wanted want ∷ []) from.next from.deep (from.next + 1) result }
+    fn part(&self, want: Want, reached: &mut Reached) -> Result<(), usize>
+        requires inside { reached.old.next ≤ length self.now.kinds.now }
+        requires level { want.level ≤ reached.old.next + 1 }
+        ensures { Passed self.now.kinds.now self.now.words.now (wanted want ∷ []) reached.old.next reached.old.deep (reached.old.next + 1)
+            (walk_to reached.new result) }
     {
-        if from.next >= self.kinds.len() {
-            return Err(from.next);
+        let at = reached.next;
+        if at >= self.kinds.len() {
+            return Err(at);
         }
-        match tables::shape_of(want.class, self.kinds[from.next]) {
-            None => Err(from.next),
+        match tables::shape_of(want.class, self.kinds[at]) {
+            None => Err(at),
             Some(Shape::Each(class)) => {
-                self.items(want.inner(class), self.words[from.next], from.past(want))
+                *reached = reached.past(want);
+                self.items(want.inner(class), self.words[at], reached)
             }
-            Some(Shape::Parts(classes)) => self.operands(want, classes, from.past(want)),
+            Some(Shape::Parts(classes)) => {
+                *reached = reached.past(want);
+                self.operands(want, classes, reached)
+            }
         }
     }
 
-    // Reads so many parts that are wanted.
+    // Reads so many parts that are wanted, and moves past them.
     #[cycle(part)]
-    fn items(&self, want: Want, count: u64, from: Reached) -> Result<Reached, usize>
-        requires inside { from.next ≤ length self.now.kinds.now }
-        requires level { want.level ≤ from.next + 1 }
-        ensures { Passed self.now.kinds.now self.now.words.now (replicate count (wanted want)) from.next from.deep from.next result }
+    fn items(&self, want: Want, count: u64, reached: &mut Reached) -> Result<(), usize>
+        requires inside { reached.old.next ≤ length self.now.kinds.now }
+        requires level { want.level ≤ reached.old.next + 1 }
+        ensures { Passed self.now.kinds.now self.now.words.now (replicate count (wanted want)) reached.old.next reached.old.deep
+            reached.old.next (walk_to reached.new result) }
     {
-        let mut reached = from;
         for _ in 0..count {
-            reached = self.part(want, reached)?;
+            self.part(want, reached)?;
         }
-        Ok(reached)
+        Ok(())
     }
 
-    // Reads a part of each class, behind a record that is wanted.
+    // Reads a part of each class, behind a record that is wanted, and moves past them.
     #[cycle(part)]
-    fn operands(&self, want: Want, classes: &[Class], from: Reached) -> Result<Reached, usize>
-        requires inside { from.next ≤ length self.now.kinds.now }
-        requires level { want.level ≤ from.next }
-        ensures { Passed self.now.kinds.now self.now.words.now (wants (wanted want) (map class_of classes.now)) from.next from.deep from.next result }
+    fn operands(&self, want: Want, classes: &[Class], reached: &mut Reached) -> Result<(), usize>
+        requires inside { reached.old.next ≤ length self.now.kinds.now }
+        requires level { want.level ≤ reached.old.next }
+        ensures { Passed self.now.kinds.now self.now.words.now (wants (wanted want) (map class_of classes.now)) reached.old.next
+            reached.old.deep reached.old.next (walk_to reached.new result) }
     {
-        let mut reached = from;
         for class in classes {
-            reached = self.part(want.inner(*class), reached)?;
+            self.part(want.inner(*class), reached)?;
         }
-        Ok(reached)
+        Ok(())
     }
 }
 
@@ -159,14 +166,14 @@ pub fn check_structure(kinds: &[u8], words: &[u64]) -> Result<(), Refusal>
         class: Class::One(Sort::Project),
         level: 1,
     };
-    let start = Reached {
+    let mut reached = Reached {
         next: 0,
         deep: None,
     };
-    match structure.part(project, start) {
+    match structure.part(project, &mut reached) {
         Err(at) => Err(Refusal::NoProject(at as u64)),
-        Ok(end) if end.next < n => Err(Refusal::NoProject(end.next as u64)),
-        Ok(end) => match end.deep {
+        Ok(()) if reached.next < n => Err(Refusal::NoProject(reached.next as u64)),
+        Ok(()) => match reached.deep {
             Some(at) => Err(Refusal::TooDeep(at as u64)),
             None => Ok(()),
         },
@@ -182,12 +189,13 @@ pub fn part_end(records: &Records, class: Class, at: usize) -> usize
         kinds: records.kinds,
         words: records.words,
     };
-    let start = Reached {
+    let mut end = Reached {
         next: at,
         deep: None,
     };
     let want = Want { class, level: 1 };
-    structure.part(want, start).unwrap().next
+    structure.part(want, &mut end).unwrap();
+    end.next
 }
 
 // Whether a kind is known.
