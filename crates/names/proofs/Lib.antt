@@ -2,3 +2,4 @@
 pub mod Orders
 pub mod Pieces
 pub mod Checks
+pub mod Counts

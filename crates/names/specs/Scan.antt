@@ -1,6 +1,6 @@
 -- The check of a text's names: what it answers.
 -- Assumes nothing: these are definitions.
-use Rattle.std.specs.Prelude.{ℕ, Bool, List, length, Result, Ok, Err}
+use Rattle.std.specs.Prelude.{ℕ, suc, Bool, true, false, List, [], ◌∷◌, eqb, length, Result, Ok, Err}
 use Rattle.std.proofs.Math.Option.{Option, none, some}
 use Rattle.lustre.specs.Names.{Piece, bad_name, names_of}
 use Rattle.lustre.specs.declared.Refusal.{Refusal}
@@ -18,3 +18,8 @@ judged (some k) n = Err (BadName k)
 -- what the check of a text answers
 unfoldable pub checked : List ℕ → Result ℕ Refusal
 checked text = judged (bad_name text) (length (names_of text))
+
+-- how many bytes are zero
+unfoldable pub zeros : List ℕ → ℕ
+zeros [] = 0
+zeros (b ∷ bs) = elim (eqb b 0) [ true ↦ suc (zeros bs) | false ↦ zeros bs ]

@@ -7,7 +7,7 @@ ghost use Rattle.std.specs.Prelude.{◌≡◌, true};
 ghost use Rattle.std.proofs.Math.Option.{some};
 ghost use Rattle.lustre.specs.Name.{◌among◌};
 ghost use Rattle.lustre.specs.Names.{above, barred, is_name, names_of, name_at};
-ghost use Rattle.names.specs.Scan.{piece_of, checked};
+ghost use Rattle.names.specs.Scan.{piece_of, checked, zeros};
 
 use lustre::{NAMES, Refusal};
 
@@ -16,6 +16,9 @@ const MAX_LENGTH: usize = 64;
 
 // The names that are barred: the Rust's names of two types of inference.
 const BARRED: [&[u8]; 2] = [b"__tuple__", b"__unit__"];
+
+// So many bytes at a time are passed over in the search for a name: zeros are counted faster than names are cut.
+const STRETCH: usize = 16;
 
 // Whether b is above a in byte order.
 #[tactic(auto, using(crate::proofs::Orders::above_by_lt))]
@@ -62,9 +65,41 @@ pub fn check_names(text: &[u8]) -> Result<u64, Refusal>
     Ok(n)
 }
 
+// How many of the bytes are zero.
+fn zeros_in(bytes: &[u8]) -> usize
+    ensures { result ≡ zeros bytes.now }
+{
+    // Kept: the compiler counts many bytes at once in a plain loop, and not behind `filter`.
+    let mut n = 0;
+    for b in bytes {
+        if *b == 0 {
+            n += 1;
+        }
+    }
+    n
+}
+
+// A rest of the text, and the number that name n has there. The stretches before the one in which name n - 1 ends are passed over.
+fn passed_over(text: &[u8], n: usize) -> (&[u8], usize)
+    ensures { name_at (names_of result.0.now) result.1 ≡ name_at (names_of text.now) n }
+{
+    let mut rest = text;
+    let mut left = n;
+    while let Some((front, back)) = rest.split_at_checked(STRETCH) {
+        let closed = zeros_in(front);
+        if closed >= left {
+            return (rest, left);
+        }
+        rest = back;
+        left -= closed;
+    }
+    (rest, left)
+}
+
 // The part of the text that is name n, without its closing zero; empty past the last name. A last name that is not closed counts here.
 pub fn name(text: &[u8], n: usize) -> &[u8]
     ensures { result.now ≡ name_at (names_of text.now) n }
 {
-    text.split(|b| *b == 0).nth(n).unwrap_or(b"")
+    let (rest, n) = passed_over(text, n);
+    rest.split(|b| *b == 0).nth(n).unwrap_or(b"")
 }
