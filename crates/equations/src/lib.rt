@@ -249,7 +249,7 @@ fn join_names(words: &[u64], list: usize, row: &NameSet, graph: &mut [u64; GRAPH
 {
     let end = list + 1 + words[list] as usize;
     for name in &words[list + 1..end] {
-        join_row(graph, *name as usize, row);
+        join_row(graph, *name as usize, &row.bits);
     }
 }
 

@@ -8,6 +8,7 @@ use mathlib.Core.Logic.{◌⊎◌, inl, inr, ⊎_elim}
 use mathlib.Core.Bool.{Bool, true, false}
 use mathlib.Core.List.{List, [], ◌∷◌, Memᴰ}
 use lib.ListN.{length, get_or, take, drop}
+use lib.Seq.{get_or-take}
 use lib.Dec.{eqb}
 use lib.Count.{count_trailing_zeros}
 use lib.Pow.{shr_le}
@@ -135,7 +136,7 @@ pub first_names : {ws : List ℕ} {a j b : ℕ} → First ws a j b → row_from 
 first_names {ws} {a} {j} {b} n = n.rest ∙ row_hit ws a b n.name n.there
 
 -- two tests that agree pass the same numbers
-passing_same : (p q : ℕ → Bool) (k j : ℕ) → ((b : ℕ) → j ≤ b → b < j + k → p b ≡ q b) → passing p k j ≡ passing q k j
+pub passing_same : (p q : ℕ → Bool) (k j : ℕ) → ((b : ℕ) → j ≤ b → b < j + k → p b ≡ q b) → passing p k j ≡ passing q k j
 unfolding passing
 passing_same p q zero j h = refl
 passing_same p q (suc k) j h =
@@ -150,9 +151,10 @@ passing_same p q (suc k) j h =
 pub record Over (ws : List ℕ) (a : ℕ) (i : RowNames) : Type 0 where
   pub has : (b : ℕ) → b < 512 → has i.row.now 0 b ≡ has ws a b
 
--- over the words of a set, or over those of a row of a graph
-pub over_set : {ws : List ℕ} {i : RowNames} → i.row.now ≡ ws → Over ws 0 i
-over_set e = record { has = λ b h. rw e refl }
+-- over the first eight words, a set, or over those of a row of a graph
+pub over_front : {ws : List ℕ} {i : RowNames} → i.row.now ≡ take 8 ws → Over ws 0 i
+unfolding has
+over_front {ws} e = record { has = λ b h. rw e (ap (λ (v : ℕ). bit v (b % 64)) (get_or-take 8 ws (8 * 0 + b / 64) 0 (omega arith))) }
 
 pub over_row : {ws : List ℕ} {a : ℕ} {i : RowNames} → a < 512 → length ws ≡ 4096 → i.row.now ≡ take 8 (drop (8 * a) ws) → Over ws a i
 unfolding has

@@ -1,13 +1,14 @@
 -- The steps of `search` beside those of the definition's `starts`, and what its answer says of the equations.
 -- Assumes nothing.
 use Rattle.std.specs.Prelude.{Option, None, Some, IfSome, is_some}
+use Rattle.std.proofs.lemmas.List.{length-append, take-append-le}
 use Rattle.std.proofs.lemmas.Option.{same_Some}
-use Prim.Native.Nat.{ℕ, zero, suc, ◌+◌, ◌*◌, ◌-◌, ◌≤◌, ◌<◌}
+use Prim.Native.Nat.{ℕ, zero, suc, ◌+◌, ◌*◌, ◌-◌, ◌≤◌, ◌<◌, ◌/◌, ◌%◌}
 use native.Mathlib.Omega.{arith}
 use native.Mathlib.Nat.{le_refl, add-zero}
 use mathlib.Core.Path.{◌≡◌, refl, sym, ◌∙◌, ap, subst}
 use mathlib.Core.Bool.{true, true≢false}
-use mathlib.Core.List.{List, [], ◌∷◌, map, map-id}
+use mathlib.Core.List.{List, [], ◌∷◌, ◌++◌, map, map-id}
 use mathlib.Core.Option.{some}
 use lib.ListN.{length, get_or, take, drop, length-drop, replicate, length-replicate, get_or-replicate}
 use lib.Seq.{get_or-take, get_or-drop, length-take-le}
@@ -18,13 +19,13 @@ use Rattle.demands.specs.Reading.{Each}
 use Rattle.loops.specs.declared.Colour.{Colour}
 use Rattle.loops.specs.declared.Colour.TheVariants.{Free, OnPath, Cleared}
 use Rattle.std.specs.declared.ops.Range.{Range}
-use Rattle.loops.specs.Rows.{row_from, row, First}
+use Rattle.loops.specs.Rows.{bit, has, row_from, row, First}
 use Rattle.loops.specs.Steps.{free, is_on, is_off, Colours, Ends, Alike, CanEnter, Enters, Places}
 use Rattle.loops.specs.Search.{Answers, Searches}
-use Rattle.loops.proofs.Rows.{first_names}
+use Rattle.loops.proofs.Rows.{first_names, passing_each, passing_same}
 use Rattle.demands.proofs.Clauses.{starts_going, more_none, more_more}
 use Rattle.loops.proofs.Steps.{free_le}
-use Rattle.loops.proofs.Rename.{EachIn, renamed}
+use Rattle.loops.proofs.Rename.{EachIn, renamed, walk_renamed}
 use Rattle.loops.proofs.Texts.{searched_texts}
 
 -- The answer of a walk over numbers stands in the path.
@@ -78,12 +79,35 @@ searched {graph} {defs} {path} {r} {looks} fits within ordered bounded shown =
           shown_known (λ (b : ℕ). b < names) (o f) path r looks (shown f (omega arith)) (searched_texts sh).0 within;
     }
 
+-- the names of a row are below 512
+row_named : (ws : List ℕ) (a : ℕ) → Each (λ (b : ℕ). b < 512) (row ws a)
+unfolding row_from
+row_named ws a = passing_each (has ws a) (λ (b : ℕ). b < 512) 512 0 (λ b l u e. omega arith)
+
+-- the first 512 rows are those of the first 4,096 words
+row_front : (graph : List ℕ) (a : ℕ) → a < 512 → row (take 4096 graph) a ≡ map (λ (n : ℕ). n) (row graph a)
+unfolding row_from has
+row_front graph a h =
+    passing_same (has (take 4096 graph) a) (has graph a) 512 0 (λ b l u. ap (λ (v : ℕ). bit v (b % 64)) (get_or-take 4096 graph (8 * a + b / 64) 0 (omega arith)))
+    ∙ sym (map-id (row graph a))
+
+-- so a walk comes to no others
+walk_front : (graph defs : List ℕ) (f : ℕ) → walk eqb (row graph) f (row defs 0) ≡ walk eqb (row (take 4096 graph)) f (row defs 0)
+walk_front graph defs f =
+    let r =
+    walk_renamed eqb eqb (row graph) (row (take 4096 graph)) (λ (n : ℕ). n) (λ (n : ℕ). n < 512) (λ x y h k. refl) (row_front graph) (λ x h. row_named graph x) f (row defs 0) (row_named defs 0) in
+    sym (ap (walk eqb (row (take 4096 graph)) f) (sym (map-id (row defs 0))) ∙ r.1 ∙ renamed_none (walk eqb (row graph) f (row defs 0)))
+
+-- the definition's `enter` along the first 4,096 words of a graph
+abbrev enter_front : List ℕ → ℕ → List ℕ → ℕ → List ℕ → Search ℕ
+enter_front graph f = enter eqb (row (take 4096 graph)) f
+
 -- What the loop over the names to start from keeps: those below v are done.
 pub record Searching (graph defs : List ℕ) (colour : List Colour) (path : List ℕ) (looks v : ℕ) : Type 0 where
   pub wide : length colour ≡ 512
   pub bounded : looks + 512 * free colour ≤ 262144
   pub right : (f : ℕ) → 512 ≤ f
-      → (cl : List ℕ) × Colours colour [] cl × (walk eqb (row graph) f (row defs 0) ≡ more looks (starts eqb (enter eqb (row graph) f) (row_from defs 0 v) cl))
+      → (cl : List ℕ) × Colours colour [] cl × (walk eqb (row graph) f (row defs 0) ≡ more looks (starts eqb (enter_front graph f) (row_from defs 0 v) cl))
 
 pub searching_start : {graph defs path : List ℕ} → Searching graph defs (replicate 512 Free) path 0 0
 unfolding walk mem
@@ -96,15 +120,15 @@ searching_start {graph} {defs} {path} =
       right = λ f h. (
         [],
         record { on = λ x b. sym (ap is_on (get_or-replicate 512 x Free Free b)); off = λ x b. sym (ap is_off (get_or-replicate 512 x Free Free b)) },
-        sym (more_none (starts eqb (enter eqb (row graph) f) (row defs 0) [])),
+        walk_front graph defs f ∙ sym (more_none (starts eqb (enter_front graph f) (row defs 0) [])),
       );
     }
 
 module _ {graph defs : List ℕ} {colour : List Colour} {path : List ℕ} {looks v : ℕ} (l : Searching graph defs colour path looks v) where
   -- no name is left to start from
-  pub searched_none : row_from defs 0 v ≡ [] → Searches graph defs path None looks
+  pub searched_none : (all : List ℕ) → row_from defs 0 v ≡ [] → Searches graph defs all None looks
   unfolding starts more
-  searched_none h =
+  searched_none all h =
       searched
       tt
       tt
@@ -113,14 +137,14 @@ module _ {graph defs : List ℕ} {colour : List Colour} {path : List ℕ} {looks
       (λ f b.
       let r = l.right f b in
       subst
-      (λ (o : Search ℕ). Shown o path None looks)
-      (sym (r.2 ∙ ap (λ (vs : List ℕ). more looks (starts eqb (enter eqb (row graph) f) vs r.0)) h))
+      (λ (o : Search ℕ). Shown o all None looks)
+      (sym (r.2 ∙ ap (λ (vs : List ℕ). more looks (starts eqb (enter_front graph f) vs r.0)) h))
       (refl, sym (add-zero looks)))
 
   module _ {b : ℕ} (n : First defs 0 v b) where
     -- the name to start from, and those behind it
-    at_hand : (f : ℕ) (h : 512 ≤ f) → walk eqb (row graph) f (row defs 0) ≡ more looks (starts eqb (enter eqb (row graph) f) (b ∷ row_from defs 0 (b + 1)) (l.right f h).0)
-    at_hand f h = let r = l.right f h in r.2 ∙ ap (λ (vs : List ℕ). more looks (starts eqb (enter eqb (row graph) f) vs r.0)) (first_names n)
+    at_hand : (f : ℕ) (h : 512 ≤ f) → walk eqb (row graph) f (row defs 0) ≡ more looks (starts eqb (enter_front graph f) (b ∷ row_from defs 0 (b + 1)) (l.right f h).0)
+    at_hand f h = let r = l.right f h in r.2 ∙ ap (λ (vs : List ℕ). more looks (starts eqb (enter_front graph f) vs r.0)) (first_names n)
 
     -- none of the colours is `OnPath` between two starts
     off_path : get_or colour b Free ≡ OnPath → ⊥
@@ -141,25 +165,25 @@ module _ {graph defs : List ℕ} {colour : List Colour} {path : List ℕ} {looks
           bounded = l.bounded;
           right = λ f h.
               let r = l.right f h in
-              (r.0, r.1, at_hand f h ∙ ap (more looks) ((starts_going eqb (enter eqb (row graph) f)).skip b (row_from defs 0 (b + 1)) r.0 refl (r.1.off b n.name ∙ passed (get_or colour b Free) e off_path) ∙ more_none (starts eqb (enter eqb (row graph) f) (row_from defs 0 (b + 1)) r.0)));
+              (r.0, r.1, at_hand f h ∙ ap (more looks) ((starts_going eqb (enter_front graph f)).skip b (row_from defs 0 (b + 1)) r.0 refl (r.1.off b n.name ∙ passed (get_or colour b Free) e off_path) ∙ more_none (starts eqb (enter_front graph f) (row_from defs 0 (b + 1)) r.0)));
         }
 
     module _ (e : get_or colour b Free ≡ Free) where
       pub can_start : CanEnter colour 0 b
       can_start = record { name = n.name; room = omega (arith, free_le colour, l.wide); new = e }
 
-      module _ {colour' : List Colour} {path' : List ℕ} {end : Option ℕ} {k : ℕ} (h : Enters graph colour path 0 b colour' path' end k) where
+      module _ {colour' : List Colour} {path' : List ℕ} {end : Option ℕ} {k : ℕ} (h : Enters (take 4096 graph) colour path 0 b colour' path' end k) where
         pub bound_here : looks + k + 512 * free colour' ≤ 262144
         bound_here = omega (arith, l.bounded, h.bounded)
 
         -- the definition enters it too
         entered : (f : ℕ) (m : 512 ≤ f)
-            → Alike (enter eqb (row graph) f [] b (l.right f m).0) [] b colour' path' end k
-            × (walk eqb (row graph) f (row defs 0) ≡ more looks (after (enter eqb (row graph) f [] b (l.right f m).0) (λ cl. starts eqb (enter eqb (row graph) f) (row_from defs 0 (b + 1)) (b ∷ cl))))
+            → Alike (enter_front graph f [] b (l.right f m).0) [] b colour' path' end k
+            × (walk eqb (row graph) f (row defs 0) ≡ more looks (after (enter_front graph f [] b (l.right f m).0) (λ cl. starts eqb (enter_front graph f) (row_from defs 0 (b + 1)) (b ∷ cl))))
         unfolding mem
         entered f m =
             let r = l.right f m in
-            let rec : List ℕ → ℕ → List ℕ → Search ℕ = enter eqb (row graph) f in (
+            let rec : List ℕ → ℕ → List ℕ → Search ℕ = enter_front graph f in (
               h.right r.0 f r.1 (omega (arith, free_le colour, l.wide)),
               at_hand f m
                   ∙ ap
@@ -175,14 +199,14 @@ module _ {graph defs : List ℕ} {colour : List Colour} {path : List ℕ} {looks
             record {
               wide = wide;
               bounded = bound_here;
-              right = λ f m. let r = entered f m in cleared f (enter eqb (row graph) f [] b (l.right f m).0) r.0 r.1;
+              right = λ f m. let r = entered f m in cleared f (enter_front graph f [] b (l.right f m).0) r.0 r.1;
             }
           where
             go : ℕ → List ℕ → Search ℕ
-            go f cl = starts eqb (enter eqb (row graph) f) (row_from defs 0 (b + 1)) (b ∷ cl)
+            go f cl = starts eqb (enter_front graph f) (row_from defs 0 (b + 1)) (b ∷ cl)
 
             cleared : (f : ℕ) (o : Search ℕ) → Alike o [] b colour' path' end k → walk eqb (row graph) f (row defs 0) ≡ more looks (after o (go f))
-                → (cl : List ℕ) × Colours colour' [] cl × (walk eqb (row graph) f (row defs 0) ≡ more (looks + k) (starts eqb (enter eqb (row graph) f) (row_from defs 0 (b + 1)) cl))
+                → (cl : List ℕ) × Colours colour' [] cl × (walk eqb (row graph) f (row defs 0) ≡ more (looks + k) (starts eqb (enter_front graph f) (row_from defs 0 (b + 1)) cl))
             cleared f (found c m) a q = absurd (true≢false (ap is_some (sym a.is ∙ z)))
             cleared f (clear cl m) a q = (b ∷ cl, a.colours, q ∙ more_more looks m (go f cl) ∙ ap (λ (y : ℕ). more (looks + y) (go f cl)) a.counted)
 
@@ -190,10 +214,10 @@ module _ {graph defs : List ℕ} {colour : List Colour} {path : List ℕ} {looks
         module _ {at : ℕ} (z : end ≡ Some at) where
           found_loop : (f : ℕ) → 512 ≤ f → (c : List ℕ) × (walk eqb (row graph) f (row defs 0) ≡ found c (looks + k)) × Ends path' at c
           unfolding after more
-          found_loop f m = let r = entered f m in looped (enter eqb (row graph) f [] b (l.right f m).0) r.0 r.1
+          found_loop f m = let r = entered f m in looped (enter_front graph f [] b (l.right f m).0) r.0 r.1
             where
               looped : (o : Search ℕ) → Alike o [] b colour' path' end k
-                  → walk eqb (row graph) f (row defs 0) ≡ more looks (after o (λ cl. starts eqb (enter eqb (row graph) f) (row_from defs 0 (b + 1)) (b ∷ cl)))
+                  → walk eqb (row graph) f (row defs 0) ≡ more looks (after o (λ cl. starts eqb (enter_front graph f) (row_from defs 0 (b + 1)) (b ∷ cl)))
                   → (c : List ℕ) × (walk eqb (row graph) f (row defs 0) ≡ found c (looks + k)) × Ends path' at c
               looped (found c y) a q = (c, q ∙ ap (λ (x : ℕ). found c (looks + x)) a.counted, subst (λ (x : ℕ). Ends path' x c) (same_Some a.at at (sym a.is ∙ z)) a.there)
               looped (clear cl y) a q = absurd (true≢false (ap is_some (sym z ∙ a.nothing)))
@@ -201,13 +225,13 @@ module _ {graph defs : List ℕ} {colour : List Colour} {path : List ℕ} {looks
           pub can_place : (1 ≤ at) × (at ≤ 513)
           can_place = let r = found_loop 512 (le_refl 512) in (r.2.some, r.2.fits)
 
-          pub searched_loop : {start : ℕ} → length path' ≡ 513 → Places path' at start → Searches graph defs path' (Some (record { start = start; end = at })) (looks + k)
-          searched_loop {start} long p =
+          pub searched_loop : {start : ℕ} (behind : List ℕ) → length path' ≡ 513 → Places path' at start → Searches graph defs (path' ++ behind) (Some (record { start = start; end = at })) (looks + k)
+          searched_loop {start} behind long p =
               searched
               can_place.1
-              (omega (arith, can_place.1, long))
+              (omega (arith, can_place.1, long, length-append path' behind))
               (omega (arith, p.before))
               (omega (arith, bound_here))
               (λ f m.
               let r = found_loop f m in
-              subst (λ (o : Search ℕ). Shown o path' (Some (record { start = start; end = at })) (looks + k)) (sym r.1) (record { start = start; end = at }, refl, p.loop ∙ sym r.2.loop, refl))
+              subst (λ (o : Search ℕ). Shown o (path' ++ behind) (Some (record { start = start; end = at })) (looks + k)) (sym r.1) (record { start = start; end = at }, refl, ap (drop start) (take-append-le at path' behind (omega (arith, can_place.1, long))) ∙ p.loop ∙ sym r.2.loop, refl))

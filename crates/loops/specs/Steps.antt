@@ -68,6 +68,12 @@ pub record Enters (graph : List ℕ) (colour : List Colour) (path : List ℕ) (d
   pub right : (cl : List ℕ) (f : ℕ) → Colours colour (take depth path) cl → free colour ≤ f
       → Alike (enter eqb (row graph) f (take depth path) node cl) (take depth path) node colour' path' end looks
 
+-- a count of looks went from `old` to `new` by a number of which P holds
+pub record Counts (P : ℕ → Type 0) (old new : ℕ) : Type 0 where
+  pub taken : ℕ
+  pub added : new ≡ old + taken
+  pub holds : P taken
+
 -- the loop that the path ends with starts at `start`
 pub record Places (path : List ℕ) (end start : ℕ) : Type 0 where
   pub before : start < end

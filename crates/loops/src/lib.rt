@@ -5,10 +5,10 @@
 // are searched is not decided here.
 #![tactic(auto)]
 
-ghost use Rattle.std.specs.Prelude.{ℕ, ◌+◌, ◌*◌, ◌-◌, ◌≤◌, ◌<◌, ◌≡◌, false, not, take, drop};
+ghost use Rattle.std.specs.Prelude.{ℕ, ◌+◌, ◌*◌, ◌-◌, ◌≤◌, ◌<◌, ◌≡◌, false, not, length, take, drop};
 ghost use Rattle.std.specs.Iterator.{at_most};
 ghost use Rattle.loops.specs.Rows.{has, Next, Gives, Connected, Joined, Emptied, Cleared};
-ghost use Rattle.loops.specs.Steps.{CanEnter, Enters, Places};
+ghost use Rattle.loops.specs.Steps.{free, CanEnter, Enters, Counts, Places};
 ghost use Rattle.loops.specs.Search.{Searches};
 
 use lustre::{NAMES, NameId};
@@ -110,13 +110,23 @@ fn row_of(graph: &[u64; GRAPH], a: usize) -> &[u64; 8]
     graph[8 * a..].first_chunk().unwrap()
 }
 
+// Adds the edge from `a` to `b`; and, where `graph` is one set of names and `a` is 0, the name `b`.
+pub fn connect(graph: &mut [u64], a: usize, b: usize)
+    requires row { 8 * a + 8 ≤ length graph.old }
+    requires name { b < 512 }
+    ensures { Connected graph.old a b graph.new }
+{
+    graph[8 * a + b / 64] |= 1u64 << (b % 64);
+}
+
 // Adds an edge from `a` to each name of the set `row`, a word at a time.
-pub fn join_row(graph: &mut [u64; GRAPH], a: usize, row: &NameSet)
-    requires { a < 512 }
-    ensures { Joined graph.old a row.now.bits graph.new }
+pub fn join_row(graph: &mut [u64], a: usize, row: &[u64])
+    requires row { 8 * a + 8 ≤ length graph.old }
+    requires set { 8 ≤ length row.now }
+    ensures { Joined graph.old a row.now graph.new }
 {
     for k in 0..8 {
-        graph[8 * a + k] |= row.bits[k];
+        graph[8 * a + k] |= row[k];
     }
 }
 
@@ -145,48 +155,41 @@ enum Colour {
     Cleared,
 }
 
-// Where a path that ends in a loop ends, if one was found; and the looks taken.
-#[derive(Drop)]
-struct Entered {
-    end: Option<usize>,
-    looks: u64,
-}
-
 // Enters `node`, which is neither on the path nor cleared, as the path's name number `depth`, and looks at its successors in order: one on
-// the path closes a loop, one cleared is passed over, any other is entered.
+// the path closes a loop, one cleared is passed over, any other is entered. Where a path that ends in a loop ends, if one was found; each
+// look is added to `looks`, which takes less of the stack at each name of a path than to answer with them.
 fn enter(
     graph: &[u64; GRAPH],
     colour: &mut [Colour; NAMES],
     path: &mut [u64; PATH],
     depth: usize,
     node: usize,
-) -> Entered
-    requires { CanEnter colour.old depth node }
-    ensures { Enters graph.now colour.old path.old depth node colour.new path.new result.end result.looks }
+    looks: &mut u64,
+) -> Option<usize>
+    requires can { CanEnter colour.old depth node }
+    requires few { looks.old + 512 * free colour.old ≤ 262144 }
+    ensures { Counts (Enters graph.now colour.old path.old depth node colour.new path.new result) looks.old looks.new }
 {
     colour[node] = Colour::OnPath;
     path[depth] = node as u64;
-    let mut looks: u64 = 0;
     for s in names(row_of(graph, node)) {
-        looks += 1;
+        *looks += 1;
         match colour[s] {
             Colour::Cleared => {}
             Colour::OnPath => {
                 path[depth + 1] = s as u64;
-                let end = Some(depth + 2);
-                return Entered { end, looks };
+                return Some(depth + 2);
             }
             Colour::Free => {
-                let r = enter(graph, colour, path, depth + 1, s);
-                looks += r.looks;
-                if r.end.is_some() {
-                    return Entered { end: r.end, looks };
+                let end = enter(graph, colour, path, depth + 1, s, looks);
+                if end.is_some() {
+                    return end;
                 }
             }
         }
     }
     colour[node] = Colour::Cleared;
-    Entered { end: None, looks }
+    None
 }
 
 // The place of the first name of the loop that `path` ends with: the first place of its last name.
@@ -206,19 +209,24 @@ pub struct Searched {
 }
 
 // Looks for a loop, from each name of the set `defined` in order. `path` need not be cleared, and what it holds outside the loop is left free.
-pub fn search(graph: &[u64; GRAPH], defined: &NameSet, path: &mut [u64; PATH]) -> Searched
-    ensures { Searches graph.now defined.now.bits path.new result.found result.looks }
+// The names are entered with arrays in place of the slices, so that no length is kept at each name of a path.
+pub fn search(graph: &[u64], defined: &[u64], path: &mut [u64]) -> Searched
+    requires rows { 4096 ≤ length graph.now }
+    requires set { 8 ≤ length defined.now }
+    requires long { 513 ≤ length path.old }
+    ensures { Searches graph.now defined.now path.new result.found result.looks }
 {
+    let rows = graph.first_chunk().unwrap();
+    let set = defined.first_chunk().unwrap();
+    let room = path.first_chunk_mut().unwrap();
     let mut colour = [Colour::Free; NAMES];
     let mut looks: u64 = 0;
-    for v in names(&defined.bits) {
+    for v in names(set) {
         if colour[v] != Colour::Free {
             continue;
         }
-        let r = enter(graph, &mut colour, path, 0, v);
-        looks += r.looks;
-        if let Some(end) = r.end {
-            let start = first(path, end);
+        if let Some(end) = enter(rows, &mut colour, room, 0, v, &mut looks) {
+            let start = first(room, end);
             let found = Some(start..end);
             return Searched { found, looks };
         }

@@ -73,7 +73,7 @@ fn check_loops(
         Numbers text num → Shows qs text names graph.now assigned.now.bits →
         Noted num q (cycle_notes kind qs) lines.old lines.new × (result ≡ looks_of kind qs) }
 {
-    let Searched { found, looks } = search(graph, assigned, path);
+    let Searched { found, looks } = search(graph, &assigned.bits, path);
     if let Some(range) = found {
         loop_lines(&path[range], q, lines);
     }

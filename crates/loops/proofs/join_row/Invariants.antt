@@ -4,4 +4,4 @@ use Rattle.loops.proofs.Stores.{Joining}
 use Rattle.loops.proofs.join_row.Given as goal
 
 abbrev pub invariant-loop-k : goal.invariant-loop-k
-invariant-loop-k l = Joining l.initial.graph l.a l.row.bits l.graph l.k
+invariant-loop-k l = Joining l.initial.graph l.a l.row l.graph l.k

@@ -7,4 +7,4 @@ use Rattle.loops.proofs.search.Given as goal
 abbrev pub invariant-loop-v : goal.invariant-loop-v
 invariant-loop-v l =
     let i = l.v-iterator in
-    Over l.defined.bits 0 i × Searching l.graph l.defined.bits l.colour l.path l.looks i.from
+    Over l.defined 0 i × Searching l.graph l.defined l.colour l.room l.looks i.from
