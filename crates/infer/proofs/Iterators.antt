@@ -5,7 +5,6 @@ use native.Mathlib.Omega.{arith}
 use mathlib.Core.Path.{◌≡◌, refl, sym, ap, subst, ◌∙◌}
 use mathlib.Core.Bool.{Bool, true, false}
 use mathlib.Core.List.{List}
-use mathlib.Core.Logic.{◌⊎◌, ⊎_elim}
 use mathlib.Core.Option.{Option, none, some}
 use lib.ListN.{length}
 use Rattle.std.specs.Prelude as code
@@ -44,7 +43,7 @@ use Rattle.rules.specs.declared.iterators.Callee.{Callee}
 use Rattle.rules.specs.declared.iterators.FoldInputs.{FoldInputs}
 use Rattle.rules.proofs.Laws.{weaker}
 use Rattle.rules.proofs.Onward.{fold_unseeded, fold_seeded}
-use Rattle.infer.specs.Post.{kind_at, Kind, GivenGather, Ready, DoneGather, ListBehind}
+use Rattle.infer.specs.Post.{kind_at, GivenGather, Ready, DoneGather, ListBehind}
 use Rattle.infer.specs.declared.Gathered.{Gathered}
 use Rattle.infer.proofs.Steps.{word_at, said_from, nothing, Whole, Ends}
 
@@ -191,66 +190,28 @@ module _ {ctx : Context} {side : Records} {at : ℕ} (g : Given ctx side at) (i 
           ends = omega (arith, ap size from_is);
         }
 
--- the kinds of an iterator without a seed, and of one with a seed
-module _ (side : Records) (at : ℕ) where
-  pub iterator_of : (kind_at side at ≡ 80) ⊎ (kind_at side at ≡ 82) → Kind iterate_kind side at
-  iterator_of e = ⊎_elim (λ k. record { which = Map; is = k }) (λ k. record { which = Fold; is = k }) e
-
-  pub iterator_from_of : (kind_at side at ≡ 81) ⊎ (kind_at side at ≡ 83) → Kind iterate_from_kind side at
-  iterator_from_of e = ⊎_elim (λ k. record { which = Map; is = k }) (λ k. record { which = Fold; is = k }) e
-
--- whether it is a map or a fold
-module _ (side : Records) (at list : ℕ) where
-  abbrev pub form : (seed : code.Option ℕ) → ListBehind side at seed list → IterKind
-  form None b = b.0.which
-  form (Some p) b = b.0.which
-
-  map_of : (i : IterKind) → (iterate_kind i ≡ 80) ⊎ ((iterate_kind i ≡ 80 → ⊥) × (iterate_kind i ≡ 81)) → i ≡ Map
-  map_of Map e = refl
-  map_of Fold e = absurd (omega arith)
-
-  map_from_of : (i : IterKind) → (iterate_from_kind i ≡ 80) ⊎ ((iterate_from_kind i ≡ 80 → ⊥) × (iterate_from_kind i ≡ 81)) → i ≡ Map
-  map_from_of Map e = refl
-  map_from_of Fold e = absurd (omega arith)
-
-  fold_of : (i : IterKind) → (iterate_kind i ≡ 80 → ⊥) → i ≡ Fold
-  fold_of Map h = absurd (h refl)
-  fold_of Fold h = refl
-
-  fold_from_of : (i : IterKind) → (iterate_from_kind i ≡ 81 → ⊥) → i ≡ Fold
-  fold_from_of Map h = absurd (h refl)
-  fold_from_of Fold h = refl
-
-  pub maps : (seed : code.Option ℕ) (b : ListBehind side at seed list) → (kind_at side at ≡ 80) ⊎ ((kind_at side at ≡ 80 → ⊥) × (kind_at side at ≡ 81)) → form seed b ≡ Map
-  maps None b e = map_of b.0.which (rw b.0.is at e)
-  maps (Some p) b e = map_from_of b.0.which (rw b.0.is at e)
-
-  pub folds : (seed : code.Option ℕ) (b : ListBehind side at seed list) → (kind_at side at ≡ 80 → ⊥) → (kind_at side at ≡ 81 → ⊥) → form seed b ≡ Fold
-  folds None b m n = fold_of b.0.which (λ e. m (b.0.is ∙ e))
-  folds (Some p) b m n = fold_from_of b.0.which (λ e. n (b.0.is ∙ e))
-
-module _ {ctx : Context} {side : Records} {at : ℕ} (g : Given ctx side at) (list : ℕ) where
+module _ {ctx : Context} {side : Records} {at : ℕ} (g : Given ctx side at) (i : IterKind) (list : ℕ) where
   -- the list stands behind the iterator's record
-  pub list_behind : (seed : code.Option ℕ) → ListBehind side at seed list → at < list
+  pub list_behind : (seed : code.Option ℕ) → ListBehind i side at seed list → at < list
   list_behind None b = omega (arith, b.1)
-  list_behind (Some p) b = omega (arith, b.2 (seed_there g b.0.which b.0.is))
+  list_behind (Some p) b = omega (arith, b.2 (seed_there g i b.0))
 
   -- the typing of its seed
-  abbrev pub seed_of : (seed : code.Option ℕ) → ListBehind side at seed list → Scope → Bool → Option Typing
+  abbrev pub seed_of : (seed : code.Option ℕ) → ListBehind i side at seed list → Scope → Bool → Option Typing
   seed_of None b = λ Γ f. none
-  seed_of (Some p) b = λ Γ f. some (infer Γ f (at + 1) (seed_there g b.0.which b.0.is).e)
+  seed_of (Some p) b = λ Γ f. some (infer Γ f (at + 1) (seed_there g i b.0).e)
 
-  pub iterates : (seed : code.Option ℕ) (b : ListBehind side at seed list) → Iterates (source_of side g.W.text) g.e at list (form side at list seed b) (seed_of seed b)
-  iterates None b = unseeded g b.0.which b.0.is b.1
-  iterates (Some p) b = seeded g b.0.which b.0.is b.2
+  pub iterates : (seed : code.Option ℕ) (b : ListBehind i side at seed list) → Iterates (source_of side g.W.text) g.e at list i (seed_of seed b)
+  iterates None b = unseeded g i b.0 b.1
+  iterates (Some p) b = seeded g i b.0 b.2
 
   -- without a seed there is no typing of one
-  no_seed : (seed : code.Option ℕ) (b : ListBehind side at seed list) → seed ≡ None → (Γ : Scope) (f : Bool) → seed_of seed b Γ f ≡ none
+  no_seed : (seed : code.Option ℕ) (b : ListBehind i side at seed list) → seed ≡ None → (Γ : Scope) (f : Bool) → seed_of seed b Γ f ≡ none
   no_seed None b e Γ f = refl
   no_seed (Some p) b e Γ f = cc
 
   -- the seed at a place
-  pub record SeedAt (seed : code.Option ℕ) (b : ListBehind side at seed list) (p : ℕ) : Type 0 where
+  pub record SeedAt (seed : code.Option ℕ) (b : ListBehind i side at seed list) (p : ℕ) : Type 0 where
     pub e : Expr
     pub stands : ExprAt (source_of side g.W.text) e p
     pub deeper : depth e + 1 ≤ depth g.e
@@ -258,22 +219,22 @@ module _ {ctx : Context} {side : Records} {at : ℕ} (g : Given ctx side at) (li
     pub is : (Γ : Scope) (f : Bool) → seed_of seed b Γ f ≡ some (infer Γ f p e)
     pub inside : p ≡ at + 1
 
-  pub seed_at : (seed : code.Option ℕ) (b : ListBehind side at seed list) (p : ℕ) → seed ≡ Some p → SeedAt seed b p
+  pub seed_at : (seed : code.Option ℕ) (b : ListBehind i side at seed list) (p : ℕ) → seed ≡ Some p → SeedAt seed b p
   seed_at None b p e = cc
   seed_at (Some r) b p e =
-      let t = seed_there g b.0.which b.0.is in
+      let t = seed_there g i b.0 in
       let z : p ≡ at + 1 = (let y : r ≡ p = cc in sym y ∙ b.1) in
       record {
         e = t.e;
         stands = rw z t.stands;
-        deeper = seed_deeper g b.0.which b.0.is;
-        casts = seed_casts g b.0.which b.0.is;
+        deeper = seed_deeper g i b.0;
+        casts = seed_casts g i b.0;
         is = λ Γ f. rw z refl;
         inside = z;
       }
 
   -- what the call on it is given
-  abbrev pub seed_given : (seed : code.Option ℕ) (b : ListBehind side at seed list) {p : ℕ} → seed ≡ Some p → Given ctx side p
+  abbrev pub seed_given : (seed : code.Option ℕ) (b : ListBehind i side at seed list) {p : ℕ} → seed ≡ Some p → Given ctx side p
   seed_given seed b {p} e =
       let s = seed_at seed b p e in
       record {
@@ -286,8 +247,8 @@ module _ {ctx : Context} {side : Records} {at : ℕ} (g : Given ctx side at) (li
         casts = s.casts;
       }
 
-  module _ (seed : code.Option ℕ) (b : ListBehind side at seed list) where
-    abbrev pub w : Iterates (source_of side g.W.text) g.e at list (form side at list seed b) (seed_of seed b)
+  module _ (seed : code.Option ℕ) (b : ListBehind i side at seed list) where
+    abbrev pub w : Iterates (source_of side g.W.text) g.e at list i (seed_of seed b)
     w = iterates seed b
 
     -- its arrays
@@ -306,7 +267,7 @@ module _ {ctx : Context} {side : Records} {at : ℕ} (g : Given ctx side at) (li
 
     -- all is said: E0140 to E0144
     pub iterator_unfit : (h : code.Option Typ) {q : Spot} {l l₁ : Lines} → ((x : GivenGather ctx side list) → DoneGather ctx side list (word_at side at) at x q l None l₁) → Whole g h q l None l₁
-    iterator_unfit h {q} d = nothing (rw (w.infers_as g.W.Γ q.function (asHint g.W.text h)) (d iterator_given (form side at list seed b) (seed_of seed b g.W.Γ q.function) (asHint g.W.text h)))
+    iterator_unfit h {q} d = nothing (rw (w.infers_as g.W.Γ q.function (asHint g.W.text h)) (d iterator_given i (seed_of seed b g.W.Γ q.function) (asHint g.W.text h)))
 
     module _ {q : Spot} {l l₁ : Lines} {r : Gathered} {name : ℕ} (named : name ≡ word_at side at) (dg : (x : GivenGather ctx side list) → DoneGather ctx side list name at x q l (Some r) l₁) where
       abbrev pub iterator_ready : Ready ctx side list name at iterator_given q l r l₁
@@ -322,35 +283,50 @@ module _ {ctx : Context} {side : Records} {at : ℕ} (g : Given ctx side at) (li
 
       -- what the last tests say, the iterator says
       iterator_said : (h : code.Option Typ) {v : Option Ty} {l₂ : Lines}
-          → Said g.W.number q (iterate_as g.W.Γ (form side at list seed b) at iterator_ready.ps (seed_of seed b g.W.Γ q.function) iterator_ready.ds (asTy g.W.text r.result)) v l₁ l₂
+          → Said g.W.number q (iterate_as g.W.Γ i at iterator_ready.ps (seed_of seed b g.W.Γ q.function) iterator_ready.ds (asTy g.W.text r.result)) v l₁ l₂
           → Said g.W.number q (infer g.W.Γ q.function at g.e (asHint g.W.text h)) v l l₂
-      iterator_said h d = rw (w.infers_as g.W.Γ q.function (asHint g.W.text h)) (rw named at (iterator_ready.rest (form side at list seed b) (seed_of seed b g.W.Γ q.function) (asHint g.W.text h) d))
+      iterator_said h d = rw (w.infers_as g.W.Γ q.function (asHint g.W.text h)) (rw named at (iterator_ready.rest i (seed_of seed b g.W.Γ q.function) (asHint g.W.text h) d))
 
       iterator_done : (h : code.Option Typ) {high : ℕ} {x : code.Option Typ} {l₂ : Lines} → high ≤ 68
-          → Concludes g.W.number g.W.text q (iterate_as g.W.Γ (form side at list seed b) at iterator_ready.ps (seed_of seed b g.W.Γ q.function) iterator_ready.ds (asTy g.W.text r.result)) high l₁ x l₂
+          → Concludes g.W.number g.W.text q (iterate_as g.W.Γ i at iterator_ready.ps (seed_of seed b g.W.Γ q.function) iterator_ready.ds (asTy g.W.text r.result)) high l₁ x l₂
           → Ends g h q l x l₂
       iterator_done h {high} e d = weaker {least = high} (omega (arith, g.deep, w.deeper)) (record { said = iterator_said h d.said; low = d.low })
 
       -- ---- a map
 
       -- the arrays are as many as the inputs and agree with them, or E0145
-      pub map_done : (h : code.Option Typ) → form side at list seed b ≡ Map → {x : code.Option Typ} {l₂ : Lines}
+      pub map_done : (h : code.Option Typ) → i ≡ Map → {x : code.Option Typ} {l₂ : Lines}
           → ((num : Name → ℕ) (ρ : Naming) (Γ : Scope) (ds : List (ℕ × Ty)) (ps : List Port) (s : Option Typing) → Flags Γ ρ ds ps r.kept → length ps ≡ word_at ctx.records r.inputs → length ds ≡ word_at side list
           → Concludes num ρ q (iterate_as Γ Map at ps s ds (asTy ρ r.result)) (r.result.levels + 1) l₁ x l₂)
           → Ends g h q l x l₂
-      map_done h is d =
+      map_done h is {x} {l₂} d =
           let m = iterator_ready in
-          iterator_done h {high = r.result.levels + 1} (omega (arith, m.low)) (rw is (d g.W.number g.W.text g.W.Γ m.ds m.ps (seed_of seed b g.W.Γ q.function) m.flags (sym m.inputs.stand.many) (m.many ∙ sym w.many)))
+          let s : Option Typing = seed_of seed b g.W.Γ q.function in
+          iterator_done
+          h
+          {high = r.result.levels + 1}
+          (omega (arith, m.low))
+          (subst
+          (λ (k : IterKind). Concludes g.W.number g.W.text q (iterate_as g.W.Γ k at m.ps s m.ds (asTy g.W.text r.result)) (r.result.levels + 1) l₁ x l₂)
+          (sym is)
+          (d g.W.number g.W.text g.W.Γ m.ds m.ps s m.flags (sym m.inputs.stand.many) (m.many ∙ sym w.many)))
 
       -- ---- a fold
 
-      module _ (is : form side at list seed b ≡ Fold) where
+      module _ (is : i ≡ Fold) where
         -- the function's inputs are not fit: E0145
         pub fold_unfit : (h : code.Option Typ) {l₂ : Lines} → ((W : WorldOf ctx) (ps : List Port) → Listed (source_of ctx.records W.text) ps r.inputs → FoldStarts W at ps (asTy W.text r.result) q l₁ None l₂)
             → Whole g h q l None l₂
-        fold_unfit h d =
+        fold_unfit h {l₂} d =
             let m = iterator_ready in
-            nothing (iterator_said h (rw is (d g.W m.ps m.inputs (seed_of seed b g.W.Γ q.function) m.ds)))
+            let s : Option Typing = seed_of seed b g.W.Γ q.function in
+            nothing
+            (iterator_said
+            h
+            (subst
+            (λ (k : IterKind). Said g.W.number q (iterate_as g.W.Γ k at m.ps s m.ds (asTy g.W.text r.result)) none l₁ l₂)
+            (sym is)
+            (d g.W m.ps m.inputs s m.ds)))
 
         module _ {f : FoldInputs} {l₂ : Lines} (df : (W : WorldOf ctx) (ps : List Port) → Listed (source_of ctx.records W.text) ps r.inputs → FoldStarts W at ps (asTy W.text r.result) q l₁ (Some f) l₂) where
           abbrev pub fold_two : TwoInputs g.W iterator_ready.ps (asTy g.W.text r.result) l₁ f l₂
@@ -377,6 +353,13 @@ module _ {ctx : Context} {side : Records} {at : ℕ} (g : Given ctx side at) (li
               → ((W : WorldOf ctx) (ds : List (ℕ × Ty)) (ps : List Port) → Flags W.Γ W.text ds ps r.kept
               → Concludes W.number W.text q (fold_end W.Γ at (asTy W.text f.acc) (asHint W.text start) (asTy W.text f.elem) ds (asTy W.text r.result)) r.result.levels l₃ x l₄)
               → Ends g h q l x l₄
-          fold_done h t d =
+          fold_done h t {x} {l₄} d =
               let m = iterator_ready in
-              iterator_done h {high = r.result.levels} (omega (arith, m.low)) (rw is (t.rest (d g.W m.ds m.ps m.flags)))
+              iterator_done
+              h
+              {high = r.result.levels}
+              (omega (arith, m.low))
+              (subst
+              (λ (k : IterKind). Concludes g.W.number g.W.text q (iterate_as g.W.Γ k at m.ps (seed_of seed b g.W.Γ q.function) m.ds (asTy g.W.text r.result)) r.result.levels l₁ x l₄)
+              (sym is)
+              (t.rest (d g.W m.ds m.ps m.flags)))

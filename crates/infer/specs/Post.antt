@@ -5,7 +5,7 @@ use Rattle.std.specs.Prelude as code
 use Rattle.std.specs.Prelude.{ℕ, ◌+◌, ◌-◌, ◌≤◌, max, ◌≡◌, List, length, get_or, Some, None, IfSome, MatchOption}
 use Rattle.std.proofs.Math.Option.{Option, none}
 use Rattle.lustre.specs.Types.{Ty}
-use Rattle.lustre.specs.Expr.{Expr, Exprs, IterKind, size, sizes}
+use Rattle.lustre.specs.Expr.{Expr, Exprs, IterKind, Map, size, sizes}
 use Rattle.lustre.specs.Project.{Port}
 use Rattle.lustre.specs.Grammar.{count, iterate_kind, iterate_from_kind}
 use Rattle.lustre.specs.Infer.{Typing, infer, infers, both, iterate_as, iterate_rule}
@@ -97,11 +97,16 @@ DoneGather ctx side list name step g q l r l' =
     → Said g.W.number q (iterate_rule g.W.Γ step k (g.W.text name) seed (infers g.W.Γ q.function (list + 1) g.es) hint) none l l')
     (λ a. Ready ctx side list name step g q l a l')
 
--- where the list of an iterator's arrays is, behind its record or behind its seed, if it has one
-abbrev pub ListBehind : (side : Records) (at : ℕ) (seed : code.Option ℕ) (list : ℕ) → Type 0
-ListBehind side at None list = Kind iterate_kind side at × (list ≡ at + 1)
-ListBehind side at (Some p) list =
-    Kind iterate_from_kind side at × (p ≡ at + 1) × ((t : There side.kinds.now side.words.now (at + 1)) → list ≡ at + 1 + size t.e)
+-- where the list of arrays of an iterator of form i is, behind its record or behind its seed, if it has one
+abbrev pub ListBehind : (i : IterKind) (side : Records) (at : ℕ) (seed : code.Option ℕ) (list : ℕ) → Type 0
+ListBehind i side at None list = (kind_at side at ≡ iterate_kind i) × (list ≡ at + 1)
+ListBehind i side at (Some p) list =
+    (kind_at side at ≡ iterate_from_kind i) × (p ≡ at + 1) × ((t : There side.kinds.now side.words.now (at + 1)) → list ≡ at + 1 + size t.e)
+
+-- where the list of a map's arrays is, with a seed or without
+pub record MapBehind (side : Records) (at list : ℕ) : Type 0 where
+  pub seed : code.Option ℕ
+  pub behind : ListBehind Map side at seed list
 
 -- ---- the whole
 

@@ -8,11 +8,12 @@ ghost use Rattle.std.specs.Prelude.{◌≡◌, ◌&&◌, ◌+◌, ◌<◌, ◌�
 ghost use Rattle.types.specs.Place.{Read};
 ghost use Rattle.types.specs.declared.Typ.{Typ};
 ghost use Rattle.lustre.specs.declared.kinds.TheConstants.{INT_LITERAL, VARIABLE, MINUS, SHIFT_RIGHT, IF, CALL, FIELD, INDEX, TUPLE, ARRAY, STRUCT, CAST, MERGE};
+ghost use Rattle.lustre.specs.Expr.{Fold};
 ghost use Rattle.lustre.specs.Grammar.{unary_kind, when_kind};
 ghost use Rattle.rules.specs.World.{TypeOf};
 ghost use Rattle.rules.specs.Post.{Given, Inferring};
 ghost use Rattle.rules.specs.Lists.{GivenArg, DoneArg, GivenArgs, DoneArgs, DoneItem, GivenItems, DoneItems, GivenValue, DoneValue, GivenValues, DoneValues, GivenArrays, DoneArrays};
-ghost use Rattle.infer.specs.Post.{kind_at, Kind, GivenBoth, DoneBoth, GivenGather, DoneGather, ListBehind};
+ghost use Rattle.infer.specs.Post.{kind_at, Kind, GivenBoth, DoneBoth, GivenGather, DoneGather, ListBehind, MapBehind};
 
 use lines::{Lines, Spot};
 use loops::NameSet;
@@ -91,7 +92,7 @@ fn tuple(side: &RightSide, at: usize, q: Spot, lines: &mut Lines) -> Option<Type
     ensures { (h : Option Typ) → Inferring side.now.ctx side.now.records at h q lines.old result lines.new }
 {
     Some(Typed {
-        typ: Typ::bottom(types::TUPLE, side.records.words[at]),
+        typ: Typ::tuple(side.records.words[at]),
         next: skip(&side.records, at),
     })
 }
@@ -178,7 +179,7 @@ fn ite(side: &RightSide, at: usize, hint: Option<&Typ>, q: Spot, lines: &mut Lin
     requires { Given side.now.ctx side.now.records at × (kind_at side.now.records at ≡ IF) }
     ensures { Inferring side.now.ctx side.now.records at (option_copied hint.entry) q lines.old result lines.new }
 {
-    let wanted = Typ::bottom(kinds::BOOL, 0);
+    let wanted = Typ::basic(kinds::BOOL);
     let c = infer(side, at + 1, Some(&wanted), q, lines)?;
     if is_truth(&side.ctx, &c.typ) {
         return both(side, c.next, at, codes::E0091, hint, q, lines);
@@ -236,7 +237,7 @@ fn index(side: &RightSide, at: usize, q: Spot, lines: &mut Lines) -> Option<Type
     ensures { (h : Option Typ) → Inferring side.now.ctx side.now.records at h q lines.old result lines.new }
 {
     let b = infer(side, at + 1, None, q, lines)?;
-    let wanted = Typ::bottom(kinds::INT32, 0);
+    let wanted = Typ::basic(kinds::INT32);
     let i = infer(side, b.next, Some(&wanted), q, lines)?;
     let typ = index_rule(&side.ctx, &b.typ, &i.typ, at, q, lines)?;
     Some(Typed { typ, next: i.next })
@@ -534,10 +535,26 @@ fn gather(
     fail(codes::E0144, step, NONE, q, lines)
 }
 
-// An iterator whose arrays are in the list at another place, and whose seed, if it has one, stands at `seed`, lib.rs 1318 to 1410. A map
-// does not type its seed, a fold types it behind its arrays.
+// A map whose arrays are in the list at another place, lib.rs 1318 to 1351. It does not type its seed, if it has one.
+// Kept: `map` and `fold` are two functions, so that `gather` is called at two places and has a frame of its own, which is gone while a fold
+// types its seed: the compiler inlines what is called at one place alone.
 #[cycle(inference)]
-fn iterate(
+fn map(side: &RightSide, at: usize, list: usize, q: Spot, lines: &mut Lines) -> Option<Typed>
+    requires { Given side.now.ctx side.now.records at × MapBehind side.now.records at list }
+    ensures { (h : Option Typ) → Inferring side.now.ctx side.now.records at h q lines.old result lines.new }
+{
+    let g = gather(side, list, side.records.name(at), at, q, lines)?;
+    let next = g.next;
+    let inputs = side.ctx.records.words[g.inputs];
+    let count = side.records.words[list];
+    let typ = map_rule(inputs, count, &g.kept, g.result, at, q, lines)?;
+    Some(Typed { typ, next })
+}
+
+// A fold whose arrays are in the list at another place, lib.rs 1352 to 1417. It types its seed, if it has one, which stands at `seed`,
+// behind them.
+#[cycle(inference)]
+fn fold(
     side: &RightSide,
     at: usize,
     list: usize,
@@ -545,25 +562,12 @@ fn iterate(
     q: Spot,
     lines: &mut Lines,
 ) -> Option<Typed>
-    requires { Given side.now.ctx side.now.records at × ListBehind side.now.records at seed list }
+    requires { Given side.now.ctx side.now.records at × ListBehind Fold side.now.records at seed list }
     ensures { (h : Option Typ) → Inferring side.now.ctx side.now.records at h q lines.old result lines.new }
 {
-    let k = side.records.kinds[at];
-    let g = gather(side, list, side.records.name(at), at, q, lines)?;
+    let name = side.records.name(at);
+    let g = gather(side, list, name, at, q, lines)?;
     let next = g.next;
-    if k == kinds::MAP || k == kinds::MAP_FROM {
-        let inputs = side.ctx.records.words[g.inputs];
-        let typ = map_rule(
-            inputs,
-            side.records.words[list],
-            &g.kept,
-            g.result,
-            at,
-            q,
-            lines,
-        )?;
-        return Some(Typed { typ, next });
-    }
     let f = fold_inputs(&side.ctx, g.inputs, &g.result, at, q, lines)?;
     let start = match seed {
         Some(p) => infer(side, p, Some(&f.acc), q, lines).map(|a| a.typ),
@@ -601,11 +605,13 @@ pub fn infer(
         kinds::CAST => cast(side, at, q, lines),
         kinds::WHEN_TRUE | kinds::WHEN_FALSE => when(side, at, hint, q, lines),
         kinds::MERGE => merge(side, at, hint, q, lines),
-        kinds::MAP | kinds::FOLD => iterate(side, at, at + 1, None, q, lines),
-        kinds::MAP_FROM | kinds::FOLD_FROM => {
+        kinds::MAP => map(side, at, at + 1, q, lines),
+        kinds::MAP_FROM => map(side, at, skip(&side.records, at + 1), q, lines),
+        kinds::FOLD => fold(side, at, at + 1, None, q, lines),
+        kinds::FOLD_FROM => {
             let seed = at + 1;
             let list = skip(&side.records, seed);
-            iterate(side, at, list, Some(seed), q, lines)
+            fold(side, at, list, Some(seed), q, lines)
         }
         _ => binary(side, at, hint, q, lines),
     }

@@ -100,7 +100,7 @@ pub fn literal_rule(kind: Option<u8>, at: usize, q: Spot, lines: &mut Lines) -> 
     ensures { LiteralRuled q at kind lines.old result lines.new }
 {
     match kind {
-        Some(k) => Some(Typ::bottom(k, 0)),
+        Some(k) => Some(Typ::basic(k)),
         None => fail(codes::E0095, at, NONE, q, lines),
     }
 }
@@ -137,7 +137,7 @@ pub fn unary_rule(
 {
     if k == kinds::NOT {
         if is_truth(ctx, &t) {
-            return Some(Typ::bottom(kinds::BOOL, 0));
+            return Some(Typ::basic(kinds::BOOL));
         }
         return fail(codes::E0081, at, NONE, q, lines);
     }
@@ -197,7 +197,7 @@ pub fn operands(
         return fail(class.fault(), at, NONE, q, lines);
     }
     match class {
-        Class::Logical | Class::Equality | Class::Ordering => Some(Typ::bottom(kinds::BOOL, 0)),
+        Class::Logical | Class::Equality | Class::Ordering => Some(Typ::basic(kinds::BOOL)),
         Class::Arithmetic | Class::Bitwise => Some(l),
     }
 }

@@ -20,7 +20,7 @@ use lines::{Lines, Spot};
 use lustre::{NameId, Records, codes, kinds};
 use types::context::{Context, Scope};
 use types::records::{last_of, read_type};
-use types::{TUPLE, Typ, UNIT};
+use types::{Typ, UNIT};
 
 // The record behind the type at a place.
 #[tactic(auto, using(crate::proofs::Places::type_there, crate::proofs::Places::last_ends))]
@@ -62,9 +62,9 @@ pub fn outputs_type(records: &Records, at: usize) -> Typ
     ensures { (g : PortsOf records.now at) → TypeIs g.text (outputs_type g.ps) 67 result }
 {
     match records.words[at] {
-        0 => Typ::bottom(UNIT, 0),
+        0 => Typ::basic(UNIT),
         1 => read_type(records, at + 2).typ,
-        count => Typ::bottom(TUPLE, count),
+        count => Typ::tuple(count),
     }
 }
 

@@ -54,7 +54,7 @@ impl Typ {
 
     // The type of base kind k, with name number n.
     #[tactic(auto, unfolding(crate::specs::Value::asTy, crate::specs::Value::up))]
-    pub fn bottom(k: u8, n: u64) -> Typ
+    fn bottom(k: u8, n: u64) -> Typ
         requires { k ≡ 33 → n < 512 }
         ensures { Bottom k n result }
     {
@@ -64,6 +64,20 @@ impl Typ {
             levels: 0,
             lengths: [0; MOST_LEVELS],
         }
+    }
+
+    // The type of base kind k, with no name of its own: every basic type and unit.
+    pub fn basic(k: u8) -> Typ
+        ensures { Bottom k 0 result }
+    {
+        Typ::bottom(k, 0)
+    }
+
+    // The type of tuples of n members.
+    pub fn tuple(n: u64) -> Typ
+        ensures { Bottom 34 n result }
+    {
+        Typ::bottom(TUPLE, n)
     }
 
     // The named type of a name.

@@ -3,8 +3,9 @@ use Prim.Native.Nat.{ℕ}
 use native.Mathlib.Omega.{arith}
 use native.Mathlib.Nat.{pos_of_ne-zero}
 use mathlib.Core.Path.{refl}
-use Rattle.std.specs.Prelude.{option_copied}
+use Rattle.std.specs.Prelude.{◌+◌, option_copied, None, Some}
 use Rattle.std.proofs.Common.{rules}
+use Rattle.lustre.specs.Expr.{Map, Fold}
 use Rattle.standing.proofs.Sizes.{size_pos}
 use Rattle.rules.specs.Post.{Given}
 use Rattle.rules.specs.Lists.{GivenArrays}
@@ -18,7 +19,7 @@ use Rattle.infer.proofs.ArrayLaws as array-laws
 use Rattle.infer.proofs.ValueLaws as value-laws
 use Rattle.infer.proofs.Iterators as iterators
 use Rattle.infer.proofs.+inference.Goals as goal
-use Rattle.infer.proofs.+inference.Goals.{arrays-Joined-next, arrays-in-Some, arrays-in-None, binary-Joined-is_integer, binary-then-is_integer, binary-else-is_integer, infer-in_default-via-then-this-lt67, infer-in_default-via-else-this-lt67+else-this-lt79, iterate-Joined-seed, iterate-in-Some, iterate-in-None}
+use Rattle.infer.proofs.+inference.Goals.{arrays-Joined-next, arrays-in-Some, arrays-in-None, binary-Joined-is_integer, binary-then-is_integer, binary-else-is_integer, infer-in_default-via-then-this-lt67, infer-in_default-via-else-this-lt67+else-this-lt79, fold-Joined-seed, fold-in-Some, fold-in-None}
 
 -- ---- calls
 
@@ -243,66 +244,80 @@ gather-returns-then-a t c = λ g. iterators.gather_done g _ _ _ c.in_ok-c.ensure
 pub gather-returns : goal.gather-returns
 gather-returns t c = λ g. iterators.gather_uneven g _ _ _ c.in_ok-c.ensures c.in_ok-a.ensures c.if-a.false c.fail.ensures
 
-pub iterate-name-requires-clause-inside : goal.iterate-name-requires-clause-inside
-iterate-name-requires-clause-inside t c = cases.inside_words c.requires.0
+pub map-name-requires-clause-inside : goal.map-name-requires-clause-inside
+map-name-requires-clause-inside t c = cases.inside_words c.requires.0
 
-pub iterate-gather-requires : goal.iterate-gather-requires
-iterate-gather-requires t c =
-    let w = iterators.iterates c.requires.0 c.args.list c.args.seed c.requires.1 in
-    (omega (arith, c.decreases, iterators.list_behind c.requires.0 c.args.list c.args.seed c.requires.1, w.head.in_kinds), iterators.iterator_given c.requires.0 c.args.list c.args.seed c.requires.1)
+pub map-gather-requires : goal.map-gather-requires
+map-gather-requires t c =
+    let w = iterators.iterates c.requires.0 Map c.args.list c.requires.1.seed c.requires.1.behind in
+    (omega (arith, c.decreases, iterators.list_behind c.requires.0 Map c.args.list c.requires.1.seed c.requires.1.behind, w.head.in_kinds), iterators.iterator_given c.requires.0 Map c.args.list c.requires.1.seed c.requires.1.behind)
 
-pub iterate-name-requires-clause-small : goal.iterate-name-requires-clause-small
-iterate-name-requires-clause-small t c = (iterators.iterates c.requires.0 c.args.list c.args.seed c.requires.1).small
+pub map-name-requires-clause-small : goal.map-name-requires-clause-small
+map-name-requires-clause-small t c = (iterators.iterates c.requires.0 Map c.args.list c.requires.1.seed c.requires.1.behind).small
 
-pub iterate-returns-in_err-g : goal.iterate-returns-in_err-g
-iterate-returns-in_err-g t c = λ h g. rw c.from_residual.ensures (iterators.iterator_unfit g c.args.list c.args.seed c.requires.1 h (rw c.name.ensures at c.in_err-g.ensures))
+pub map-returns-in_err-g : goal.map-returns-in_err-g
+map-returns-in_err-g t c = λ h g. rw c.from_residual.ensures (iterators.iterator_unfit g Map c.args.list c.requires.1.seed c.requires.1.behind h (rw c.name.ensures at c.in_err-g.ensures))
 
-pub iterate-offset_bounds-side-g : goal.iterate-offset_bounds-side-g
-iterate-offset_bounds-side-g t c = omega (arith, (iterators.iterator_ready c.requires.0 c.args.list c.args.seed c.requires.1 c.name.ensures c.in_ok-g.ensures).inputs.stand.head.in_words)
+pub map-offset_bounds-side-g : goal.map-offset_bounds-side-g
+map-offset_bounds-side-g t c = omega (arith, (iterators.iterator_ready c.requires.0 Map c.args.list c.requires.1.seed c.requires.1.behind c.name.ensures c.in_ok-g.ensures).inputs.stand.head.in_words)
 
-pub iterate-bounds-side-g : goal.iterate-bounds-side-g
-iterate-bounds-side-g t c = (iterators.iterator_ready c.requires.0 c.args.list c.args.seed c.requires.1 c.name.ensures c.in_ok-g.ensures).inputs.stand.head.in_words
+pub map-bounds-side-g : goal.map-bounds-side-g
+map-bounds-side-g t c = (iterators.iterator_ready c.requires.0 Map c.args.list c.requires.1.seed c.requires.1.behind c.name.ensures c.in_ok-g.ensures).inputs.stand.head.in_words
 
-pub iterate-offset_bounds-side-list : goal.iterate-offset_bounds-side-list
-iterate-offset_bounds-side-list t c = omega (arith, (iterators.iterates c.requires.0 c.args.list c.args.seed c.requires.1).head.in_words)
+pub map-offset_bounds-side-list : goal.map-offset_bounds-side-list
+map-offset_bounds-side-list t c = omega (arith, (iterators.iterates c.requires.0 Map c.args.list c.requires.1.seed c.requires.1.behind).head.in_words)
 
-pub iterate-bounds-side-list : goal.iterate-bounds-side-list
-iterate-bounds-side-list t c = (iterators.iterates c.requires.0 c.args.list c.args.seed c.requires.1).head.in_words
+pub map-bounds-side-list : goal.map-bounds-side-list
+map-bounds-side-list t c = (iterators.iterates c.requires.0 Map c.args.list c.requires.1.seed c.requires.1.behind).head.in_words
 
-pub iterate-map_rule-requires : goal.iterate-map_rule-requires
-iterate-map_rule-requires t c = omega (arith, (iterators.iterator_ready c.requires.0 c.args.list c.args.seed c.requires.1 c.name.ensures c.in_ok-g.ensures).low)
+pub map-map_rule-requires : goal.map-map_rule-requires
+map-map_rule-requires t c = omega (arith, (iterators.iterator_ready c.requires.0 Map c.args.list c.requires.1.seed c.requires.1.behind c.name.ensures c.in_ok-g.ensures).low)
 
-pub iterate-returns-in_err-typ : goal.iterate-returns-in_err-typ
-iterate-returns-in_err-typ t c = λ h g. rw c.from_residual-in_err-typ.ensures (closed_none (iterators.map_done g c.args.list c.args.seed c.requires.1 c.name.ensures c.in_ok-g.ensures h (iterators.maps _ _ _ c.args.seed c.requires.1 c.then-k-eq-MAP.either) c.in_err-typ.ensures))
+pub map-returns-in_err-typ : goal.map-returns-in_err-typ
+map-returns-in_err-typ t c = λ h g. rw c.from_residual-in_err-typ.ensures (closed_none (iterators.map_done g Map c.args.list c.requires.1.seed c.requires.1.behind c.name.ensures c.in_ok-g.ensures h refl c.in_err-typ.ensures))
 
-pub iterate-returns-then-k-eq-MAP : goal.iterate-returns-then-k-eq-MAP
-iterate-returns-then-k-eq-MAP t c = λ h g. closed (iterators.map_done g c.args.list c.args.seed c.requires.1 c.name.ensures c.in_ok-g.ensures h (iterators.maps _ _ _ c.args.seed c.requires.1 c.then-k-eq-MAP.either) c.in_ok-typ.ensures) (iterators.iterator_end g c.args.list c.args.seed c.requires.1 c.name.ensures c.in_ok-g.ensures)
+pub map-returns : goal.map-returns
+map-returns t c = λ h g. closed (iterators.map_done g Map c.args.list c.requires.1.seed c.requires.1.behind c.name.ensures c.in_ok-g.ensures h refl c.in_ok-typ.ensures) (iterators.iterator_end g Map c.args.list c.requires.1.seed c.requires.1.behind c.name.ensures c.in_ok-g.ensures)
 
-pub iterate-fold_inputs-requires : goal.iterate-fold_inputs-requires
-iterate-fold_inputs-requires t c = iterators.iterator_inputs c.requires.0 c.args.list c.args.seed c.requires.1 c.name.ensures c.in_ok-g.ensures
+pub fold-name-name-requires-clause-inside : goal.fold-name-name-requires-clause-inside
+fold-name-name-requires-clause-inside t c = cases.inside_words c.requires.0
 
-pub iterate-returns-in_err-f : goal.iterate-returns-in_err-f
-iterate-returns-in_err-f t c = λ h g. rw c.from_residual-in_err-f.ensures (iterators.fold_unfit g c.args.list c.args.seed c.requires.1 c.name.ensures c.in_ok-g.ensures (iterators.folds _ _ _ c.args.seed c.requires.1 c.if-k-eq-MAP.false c.if-k-eq-MAP_FROM.false) h c.in_err-f.ensures)
+pub fold-gather-requires : goal.fold-gather-requires
+fold-gather-requires t c =
+    let w = iterators.iterates c.requires.0 Fold c.args.list c.args.seed c.requires.1 in
+    (omega (arith, c.decreases, iterators.list_behind c.requires.0 Fold c.args.list c.args.seed c.requires.1, w.head.in_kinds), iterators.iterator_given c.requires.0 Fold c.args.list c.args.seed c.requires.1)
 
-pub iterate-infer-requires : goal.iterate-infer-requires
-iterate-infer-requires t c =
-    let s = iterators.seed_at c.requires.0 c.args.list c.args.seed c.requires.1 c.in-Some.p c.in-Some.is in
-    (omega (arith, c.decreases, cases.inside c.requires.0, s.inside), iterators.seed_given c.requires.0 c.args.list c.args.seed c.requires.1 c.in-Some.is)
+pub fold-name-name-requires-clause-small : goal.fold-name-name-requires-clause-small
+fold-name-name-requires-clause-small t c = (iterators.iterates c.requires.0 Fold c.args.list c.args.seed c.requires.1).small
+
+pub fold-returns-in_err-g : goal.fold-returns-in_err-g
+fold-returns-in_err-g t c = λ h g. rw c.from_residual.ensures (iterators.iterator_unfit g Fold c.args.list c.args.seed c.requires.1 h (rw c.name-name.ensures at c.in_err-g.ensures))
+
+pub fold-fold_inputs-requires : goal.fold-fold_inputs-requires
+fold-fold_inputs-requires t c = iterators.iterator_inputs c.requires.0 Fold c.args.list c.args.seed c.requires.1 c.name-name.ensures c.in_ok-g.ensures
+
+pub fold-returns-in_err-f : goal.fold-returns-in_err-f
+fold-returns-in_err-f t c = λ h g. rw c.from_residual-in_err-f.ensures (iterators.fold_unfit g Fold c.args.list c.args.seed c.requires.1 c.name-name.ensures c.in_ok-g.ensures refl h c.in_err-f.ensures)
+
+pub fold-infer-requires : goal.fold-infer-requires
+fold-infer-requires t c =
+    let s = iterators.seed_at c.requires.0 Fold c.args.list c.args.seed c.requires.1 c.in-Some.p c.in-Some.is in
+    (omega (arith, c.decreases, cases.inside c.requires.0, s.inside), iterators.seed_given c.requires.0 Fold c.args.list c.args.seed c.requires.1 c.in-Some.is)
 
 -- what is said of the seed where its arms join
-iterate-seed : (t : ℕ) (c : iterate-Joined-seed t) (g : Given c.args.side.now.ctx c.args.side.now.records c.args.at)
-    → iterators.Seeded g c.args.list c.args.seed c.requires.1 c.name.ensures c.in_ok-g.ensures (iterators.folds _ _ _ c.args.seed c.requires.1 c.if-k-eq-MAP.false c.if-k-eq-MAP_FROM.false) c.in_ok-f.ensures c.match-seed.start c.match-seed.lines
-iterate-seed t c g =
+fold-seed : (t : ℕ) (c : fold-Joined-seed t) (g : Given c.args.side.now.ctx c.args.side.now.records c.args.at)
+    → iterators.Seeded g Fold c.args.list c.args.seed c.requires.1 c.name-name.ensures c.in_ok-g.ensures refl c.in_ok-f.ensures c.match-seed.start c.match-seed.lines
+fold-seed t c g =
     elim c.match-seed.branch [
-      | iterate-in-Some w ↦ rw (w.start-is, w.lines-is) (iterators.with_seed g c.args.list c.args.seed c.requires.1 c.name.ensures c.in_ok-g.ensures _ c.in_ok-f.ensures w.in-Some.is w.infer.ensures (iterators.mapped g.W.text w.infer.result w.map-start.result (search rules)))
-      | iterate-in-None w ↦ rw (w.start-is, w.lines-is) (iterators.without_seed g c.args.list c.args.seed c.requires.1 c.name.ensures c.in_ok-g.ensures _ c.in_ok-f.ensures w.in-None.is)
+      | fold-in-Some w ↦ rw (w.start-is, w.lines-is) (iterators.with_seed g Fold c.args.list c.args.seed c.requires.1 c.name-name.ensures c.in_ok-g.ensures refl c.in_ok-f.ensures w.in-Some.is w.infer.ensures (iterators.mapped g.W.text w.infer.result w.map-start.result (search rules)))
+      | fold-in-None w ↦ rw (w.start-is, w.lines-is) (iterators.without_seed g Fold c.args.list c.args.seed c.requires.1 c.name-name.ensures c.in_ok-g.ensures refl c.in_ok-f.ensures w.in-None.is)
     ]
 
-pub iterate-returns-in_err-typ-2 : goal.iterate-returns-in_err-typ-2
-iterate-returns-in_err-typ-2 t c = λ h g. rw c.from_residual-in_err-typ-2.ensures (closed_none (iterators.fold_done g c.args.list c.args.seed c.requires.1 c.name.ensures c.in_ok-g.ensures _ c.in_ok-f.ensures h (iterate-seed t (goal.at.iterate-returns-in_err-typ-2 t c).Joined-seed g) c.in_err-typ-2.ensures))
+pub fold-returns-in_err-typ : goal.fold-returns-in_err-typ
+fold-returns-in_err-typ t c = λ h g. rw c.from_residual-in_err-typ.ensures (closed_none (iterators.fold_done g Fold c.args.list c.args.seed c.requires.1 c.name-name.ensures c.in_ok-g.ensures refl c.in_ok-f.ensures h (fold-seed t (goal.at.fold-returns-in_err-typ t c).Joined-seed g) c.in_err-typ.ensures))
 
-pub iterate-returns : goal.iterate-returns
-iterate-returns t c = λ h g. closed (iterators.fold_done g c.args.list c.args.seed c.requires.1 c.name.ensures c.in_ok-g.ensures _ c.in_ok-f.ensures h (iterate-seed t (goal.at.iterate-returns t c).Joined-seed g) c.in_ok-typ-2.ensures) (iterators.iterator_end g c.args.list c.args.seed c.requires.1 c.name.ensures c.in_ok-g.ensures)
+pub fold-returns : goal.fold-returns
+fold-returns t c = λ h g. closed (iterators.fold_done g Fold c.args.list c.args.seed c.requires.1 c.name-name.ensures c.in_ok-g.ensures refl c.in_ok-f.ensures h (fold-seed t (goal.at.fold-returns t c).Joined-seed g) c.in_ok-typ.ensures) (iterators.iterator_end g Fold c.args.list c.args.seed c.requires.1 c.name-name.ensures c.in_ok-g.ensures)
 
 -- ---- the other constructs
 
@@ -376,16 +391,16 @@ pub ite-infer-requires : goal.ite-infer-requires
 ite-infer-requires t c = (omega (arith, c.decreases, cases.inside c.requires.0), cases.ite_first c.requires.0 c.requires.1)
 
 pub ite-returns-in_err-c : goal.ite-returns-in_err-c
-ite-returns-in_err-c t c = λ g. rw c.from_residual.ensures (cases.ite_stop g c.requires.1 c.bottom-wanted.ensures _ c.in_err-c.ensures)
+ite-returns-in_err-c t c = λ g. rw c.from_residual.ensures (cases.ite_stop g c.requires.1 c.basic-wanted.ensures _ c.in_err-c.ensures)
 
 pub ite-both-requires : goal.ite-both-requires
-ite-both-requires t c = (omega (arith, c.decreases, cases.inside c.requires.0, cases.ite_next c.requires.0 c.requires.1 c.bottom-wanted.ensures c.in_ok-c.ensures), cases.ite_pair c.requires.0 c.requires.1 c.bottom-wanted.ensures c.in_ok-c.ensures)
+ite-both-requires t c = (omega (arith, c.decreases, cases.inside c.requires.0, cases.ite_next c.requires.0 c.requires.1 c.basic-wanted.ensures c.in_ok-c.ensures), cases.ite_pair c.requires.0 c.requires.1 c.basic-wanted.ensures c.in_ok-c.ensures)
 
 pub ite-returns-then-is_truth : goal.ite-returns-then-is_truth
-ite-returns-then-is_truth t c = λ g. cases.ite_done g c.requires.1 c.bottom-wanted.ensures c.in_ok-c.ensures c.is_truth.ensures _ c.if-is_truth.true c.both.ensures
+ite-returns-then-is_truth t c = λ g. cases.ite_done g c.requires.1 c.basic-wanted.ensures c.in_ok-c.ensures c.is_truth.ensures _ c.if-is_truth.true c.both.ensures
 
 pub ite-returns : goal.ite-returns
-ite-returns t c = λ g. cases.ite_fail g c.requires.1 c.bottom-wanted.ensures c.in_ok-c.ensures c.is_truth.ensures _ c.if-is_truth.false c.fail.ensures
+ite-returns t c = λ g. cases.ite_fail g c.requires.1 c.basic-wanted.ensures c.in_ok-c.ensures c.is_truth.ensures _ c.if-is_truth.false c.fail.ensures
 
 pub when-name-requires-clause-inside : goal.when-name-requires-clause-inside
 when-name-requires-clause-inside t c = cases.inside_words c.requires.0
@@ -445,13 +460,13 @@ pub index-infer-requires-2 : goal.index-infer-requires-2
 index-infer-requires-2 t c = (omega (arith, c.decreases, cases.inside c.requires.0, cases.index_next c.requires.0 c.requires.1 c.in_ok-b.ensures), cases.index_second c.requires.0 c.requires.1 c.in_ok-b.ensures)
 
 pub index-returns-in_err-i : goal.index-returns-in_err-i
-index-returns-in_err-i t c = λ h g. rw c.from_residual-in_err-i.ensures (cases.index_stop₂ g c.requires.1 c.in_ok-b.ensures c.bottom-wanted.ensures h c.in_err-i.ensures)
+index-returns-in_err-i t c = λ h g. rw c.from_residual-in_err-i.ensures (cases.index_stop₂ g c.requires.1 c.in_ok-b.ensures c.basic-wanted.ensures h c.in_err-i.ensures)
 
 pub index-returns-in_err-typ : goal.index-returns-in_err-typ
-index-returns-in_err-typ t c = λ h g. rw c.from_residual-in_err-typ.ensures (closed_none (cases.index_done g c.requires.1 c.in_ok-b.ensures c.bottom-wanted.ensures c.in_ok-i.ensures h c.in_err-typ.ensures))
+index-returns-in_err-typ t c = λ h g. rw c.from_residual-in_err-typ.ensures (closed_none (cases.index_done g c.requires.1 c.in_ok-b.ensures c.basic-wanted.ensures c.in_ok-i.ensures h c.in_err-typ.ensures))
 
 pub index-returns : goal.index-returns
-index-returns t c = λ h g. closed (cases.index_done g c.requires.1 c.in_ok-b.ensures c.bottom-wanted.ensures c.in_ok-i.ensures h c.in_ok-typ.ensures) (cases.index_end g c.requires.1 c.in_ok-b.ensures c.bottom-wanted.ensures c.in_ok-i.ensures)
+index-returns t c = λ h g. closed (cases.index_done g c.requires.1 c.in_ok-b.ensures c.basic-wanted.ensures c.in_ok-i.ensures h c.in_ok-typ.ensures) (cases.index_end g c.requires.1 c.in_ok-b.ensures c.basic-wanted.ensures c.in_ok-i.ensures)
 
 pub cast-read_type-to-requires : goal.cast-read_type-to-requires
 cast-read_type-to-requires t c = cases.cast_there c.requires.0 c.requires.1
@@ -479,14 +494,23 @@ infer-infer-requires t c = (omega (arith, c.decreases, cases.inside c.requires),
 pub infer-both-requires : goal.infer-both-requires
 infer-both-requires t c = (omega (arith, c.decreases, cases.inside c.requires), cases.arrow_pair c.requires c.in-69.is)
 
-pub infer-iterate-requires : goal.infer-iterate-requires
-infer-iterate-requires t c = (omega (arith, c.decreases), (c.requires, (iterators.iterator_of _ _ c.in-80.is, refl)))
+pub infer-map-requires : goal.infer-map-requires
+infer-map-requires t c = (omega (arith, c.decreases), (c.requires, record { seed = None; behind = (c.in-80.is, refl) }))
+
+pub infer-skip-requires : goal.infer-skip-requires
+infer-skip-requires t c = iterators.seed_there c.requires Map c.in-81.is
+
+pub infer-map-requires-in-81 : goal.infer-map-requires-in-81
+infer-map-requires-in-81 t c = (omega (arith, c.decreases), (c.requires, record { seed = Some (c.args.at + 1); behind = (c.in-81.is, refl, c.skip.ensures) }))
+
+pub infer-fold-requires : goal.infer-fold-requires
+infer-fold-requires t c = (omega (arith, c.decreases), (c.requires, (c.in-82.is, refl)))
 
 pub infer-skip-list-requires : goal.infer-skip-list-requires
-infer-skip-list-requires t c = let k = iterators.iterator_from_of c.args.side.now.records c.args.at c.in-81.is in iterators.seed_there c.requires k.which k.is
+infer-skip-list-requires t c = iterators.seed_there c.requires Fold c.in-83.is
 
-pub infer-iterate-requires-in-81 : goal.infer-iterate-requires-in-81
-infer-iterate-requires-in-81 t c = (omega (arith, c.decreases), (c.requires, (iterators.iterator_from_of c.args.side.now.records c.args.at c.in-81.is, refl, c.skip-list.ensures)))
+pub infer-fold-requires-in-83 : goal.infer-fold-requires-in-83
+infer-fold-requires-in-83 t c = (omega (arith, c.decreases), (c.requires, (c.in-83.is, refl, c.skip-list.ensures)))
 
 pub infer-unary-requires : goal.infer-unary-requires
 infer-unary-requires t c = (omega (arith, c.decreases), (c.requires, cases.unary_of_kind c.requires (omega arith) (omega arith)))
@@ -530,7 +554,13 @@ pub infer-returns-in-76 : goal.infer-returns-in-76
 infer-returns-in-76 t c = c.cast.ensures _
 
 pub infer-returns-in-80 : goal.infer-returns-in-80
-infer-returns-in-80 t c = c.iterate.ensures _
+infer-returns-in-80 t c = c.map.ensures _
 
 pub infer-returns-in-81 : goal.infer-returns-in-81
-infer-returns-in-81 t c = c.iterate-in-81.ensures _
+infer-returns-in-81 t c = c.map-in-81.ensures _
+
+pub infer-returns-in-82 : goal.infer-returns-in-82
+infer-returns-in-82 t c = c.fold.ensures _
+
+pub infer-returns-in-83 : goal.infer-returns-in-83
+infer-returns-in-83 t c = c.fold-in-83.ensures _

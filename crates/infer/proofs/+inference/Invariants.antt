@@ -39,6 +39,9 @@ decreases-cast l = 4 * (length l.side.now.records.kinds.now - l.at)
 abbrev pub decreases-field : goal.decreases-field
 decreases-field l = 4 * (length l.side.now.records.kinds.now - l.at)
 
+abbrev pub decreases-fold : goal.decreases-fold
+decreases-fold l = 4 * (length l.side.now.records.kinds.now - l.at)
+
 abbrev pub decreases-gather : goal.decreases-gather
 decreases-gather l = 4 * (length l.side.now.records.kinds.now - l.list)
 
@@ -57,8 +60,8 @@ decreases-item l = 4 * (length l.side.now.records.kinds.now - l.at) + 2
 abbrev pub decreases-items : goal.decreases-items
 decreases-items l = 4 * (length l.side.now.records.kinds.now - l.at) + 3
 
-abbrev pub decreases-iterate : goal.decreases-iterate
-decreases-iterate l = 4 * (length l.side.now.records.kinds.now - l.at)
+abbrev pub decreases-map : goal.decreases-map
+decreases-map l = 4 * (length l.side.now.records.kinds.now - l.at)
 
 abbrev pub decreases-merge : goal.decreases-merge
 decreases-merge l = 4 * (length l.side.now.records.kinds.now - l.at)

@@ -7,4 +7,4 @@ pub bounds-side-at : goal.bounds-side-at
 bounds-side-at c = cases.inside_words c.requires.0
 
 pub returns : goal.returns
-returns c = λ h g. closed (cases.tuple_done g h c.requires.1 c.bottom.ensures) (c.skip.ensures (cases.there g))
+returns c = λ h g. closed (cases.tuple_done g h c.requires.1 c.tuple.ensures) (c.skip.ensures (cases.there g))

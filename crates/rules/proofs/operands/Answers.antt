@@ -16,7 +16,7 @@ unfolding operands gives bottom
 returns-in-Logical c =
     λ W.
     passed _ (sym (c.meets.ensures W) ∙ c.if-not-meets.false)
-    (returned_bottom c.bottom.ensures (elim c.in-Logical.is [ inl e ↦ rw e | inr d ↦ elim d [ inl e ↦ rw e | inr e ↦ rw e ] ]))
+    (returned_bottom c.basic.ensures (elim c.in-Logical.is [ inl e ↦ rw e | inr d ↦ elim d [ inl e ↦ rw e | inr e ↦ rw e ] ]))
 
 pub returns-in-Arithmetic : goal.returns-in-Arithmetic
 unfolding operands gives

@@ -12,7 +12,7 @@ unfolding unary_of bottom
 returns-then-is_truth c =
     λ o e W.
     rw (rules.not_of o e c.if-k-eq-NOT.true)
-    (passed _ (sym (c.is_truth.ensures W) ∙ c.if-is_truth.true) (returned_bottom c.bottom.ensures refl))
+    (passed _ (sym (c.is_truth.ensures W) ∙ c.if-is_truth.true) (returned_bottom c.basic.ensures refl))
 
 pub returns-then-k-eq-NOT : goal.returns-then-k-eq-NOT
 unfolding unary_of

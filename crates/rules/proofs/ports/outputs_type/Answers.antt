@@ -8,7 +8,7 @@ use Rattle.rules.proofs.ports.outputs_type.Goals as goal
 
 pub returns-in-0 : goal.returns-in-0
 unfolding bottom
-returns-in-0 c = λ g. let b = c.bottom.ensures in record { is = b.is g.text ∙ sym (outputs_none g c.in-0.is); low = omega (arith, b.flat) }
+returns-in-0 c = λ g. let b = c.basic.ensures in record { is = b.is g.text ∙ sym (outputs_none g c.in-0.is); low = omega (arith, b.flat) }
 
 pub read_type-requires : goal.read_type-requires
 read_type-requires c = type_there (only c.requires c.in-1.is).typed
@@ -20,5 +20,5 @@ pub returns-in_default : goal.returns-in_default
 unfolding bottom
 returns-in_default c =
     λ g.
-    let b = c.bottom-in_default.ensures in
+    let b = c.tuple.ensures in
     record { is = b.is g.text ∙ sym (outputs_more g (λ e. omega arith) (λ e. omega arith)); low = omega (arith, b.flat) }
