@@ -47,7 +47,7 @@ fn write_digit(rt: &impl Files, digit: &[u8]) -> io::Result<()> {
 
 // Writes the digit of a status; that the descriptor may be closed is no fault.
 fn tell(rt: &impl Files, status: Status) {
-    let _ = write_digit(rt, &[b'0' + status as u8]);
+    let _ = write_digit(rt, &[b'0' + status.number()]);
 }
 
 fn main(rt: HostRuntime) -> io::Result<()> {

@@ -31,6 +31,12 @@ any_error (l ∷ ls) = is_error (severity l.code) || any_error ls
 unfoldable pub status_of : Answer → List Line → Status
 status_of a ls = if eqb (refusal_of a) 0 then (if any_error (take (line_count a) ls) then Run.Errors else Run.Clean) else Run.Refused
 
+-- the number of a status: 0 for a report without an error, 1 for one with an error, 2 for a refusal
+unfoldable pub number_of : Status → ℕ
+number_of Run.Clean = 0
+number_of Run.Errors = 1
+number_of Run.Refused = 2
+
 -- the answer r to a file, and the work memory and the lines after it: those of the call on what the file holds; where it holds nothing,
 -- refusal 1 with the work memory and the lines as they were
 pub record Answered (file work : List ℕ) (lent : List Line) (r : Answer) (work' : List ℕ) (lent' : List Line) : Type 0 where

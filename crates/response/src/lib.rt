@@ -29,6 +29,20 @@ pub enum Status {
     Refused = 2,
 }
 
+impl Status {
+    ghost use Rattle.std.specs.Prelude.{◌≡◌, ◌<◌};
+    ghost use Rattle.response.specs.Response.{number_of};
+
+    // The number of a status.
+    #[tactic(auto, unfolding(crate::specs::Response::number_of))]
+    pub fn number(self) -> u8
+        ensures number { result ≡ number_of self }
+        ensures below_three { result < 3 }
+    {
+        self as u8
+    }
+}
+
 // What is said of a file: the number of bytes printed, and the status.
 #[derive(Clone, Copy)]
 pub struct Response {
