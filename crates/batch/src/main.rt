@@ -21,18 +21,18 @@ const MOST: u64 = 100000000;
 struct Buffers {
     file: [u8; FILE],
     work: [u64; WORK],
-    lines: [Line; LINES],
     out: [u8; OUT],
 }
 
-// Reads the next model and prints what is said of it.
+// Reads the next model and prints what is said of it. Each call is lent blank lines.
 fn model(reader: &mut impl Read, rt: &impl Print, buffers: &mut Buffers) -> Result<(), Stop> {
     let work_count = read_size(reader)?;
     let room = read_size(reader)?;
     let size = read_size(reader)?;
     let file = read_part(reader, &mut buffers.file, size)?;
     let work = buffers.work.get_mut(..work_count).ok_or(Stop::Ended)?;
-    let lines = buffers.lines.get_mut(..room).ok_or(Stop::Ended)?;
+    let mut blank = [Line::default(); LINES];
+    let lines = blank.get_mut(..room).ok_or(Stop::Ended)?;
     let answer = response::answer_to(file, work, lines);
     let n = response::render(&mut buffers.out, format::text_in(file), answer, lines);
     rt.write_all(buffers.out.get(..n).ok_or(Stop::Ended)?)?;
@@ -51,7 +51,6 @@ fn main(rt: HostRuntime) -> io::Result<()> {
     let mut buffers = Buffers {
         file: [0; FILE],
         work: [0; WORK],
-        lines: [Line::default(); LINES],
         out: [0; OUT],
     };
     cases::finish(run(&mut rt.reader(), &rt, &mut buffers))

@@ -16,6 +16,9 @@ use std::io::{ErrorKind, Read};
 // The mark at place 0; those behind it are larger.
 const MARK: u64 = 0x5555555555555555;
 
+// The bytes of a line.
+const LINE: usize = 48;
+
 // Room for a file of a few bytes more than any that is not refusal 1.
 pub const FILE: usize = 60000;
 
@@ -85,28 +88,31 @@ pub fn read_word<R: Read>(reader: &mut R) -> Result<u64, Stop>
     Ok(u64::from_le_bytes(read_array(reader)?))
 }
 
-// Reads a line, eight bytes a field.
-fn read_line<R: Read>(reader: &mut R) -> Result<Line, Stop> {
-    Ok(Line {
-        code: read_word(reader)?,
-        place: read_word(reader)?,
-        number: read_word(reader)?,
-        equation: read_word(reader)?,
-        step: read_word(reader)?,
-        name: read_word(reader)?,
-    })
+// The line of 48 bytes, eight bytes a field.
+fn line_of(bytes: &[u8; LINE]) -> Line {
+    let (fields, _) = bytes.as_chunks::<8>();
+    Line {
+        code: u64::from_le_bytes(fields[0]),
+        place: u64::from_le_bytes(fields[1]),
+        number: u64::from_le_bytes(fields[2]),
+        equation: u64::from_le_bytes(fields[3]),
+        step: u64::from_le_bytes(fields[4]),
+        name: u64::from_le_bytes(fields[5]),
+    }
 }
 
-// Reads n lines; those behind them are blank.
+// Reads n lines in one piece; those behind them are blank.
 pub fn read_lines<R: Read>(reader: &mut R, n: usize) -> Result<[Line; LINES], Stop>
     ensures { IfOk result (λ lines. drop n lines ≡ replicate (1024 - n) blank) }
 {
     let mut lines = [Line::default(); LINES];
+    let mut bytes = [0u8; LINE * LINES];
     if n > LINES {
         return Err(Stop::Ended);
     }
-    for line in lines[..n].iter_mut() {
-        *line = read_line(reader)?;
+    let (read, _) = read_part(reader, &mut bytes, LINE * n)?.as_chunks::<LINE>();
+    for (i, line) in lines[..n].iter_mut().enumerate() {
+        *line = line_of(&read[i]);
     }
     Ok(lines)
 }

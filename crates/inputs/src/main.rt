@@ -3,7 +3,7 @@
 // there. It stops at the first case that does not fit its buffers, and after 4,096 cases.
 #![tactic(auto)]
 
-use cases::{Stop, label, read_part, read_size, read_word};
+use cases::{Stop, label, read_part, read_size};
 use lustre::{Numbers, Refusal};
 use std::io;
 use std::io::Read;
@@ -17,15 +17,17 @@ const TEXT: usize = 16500;
 // The most cases that are read.
 const MOST: u64 = 4096;
 
-// Reads n words to the start of a buffer.
+// Reads n words in one piece to the start of a buffer.
 fn read_words<'a>(
     reader: &mut impl Read,
     buffer: &'a mut [u64],
     n: usize,
 ) -> Result<&'a [u64], Stop> {
+    let mut bytes = [0u8; 8 * RECORDS];
     let words = buffer.get_mut(..n).ok_or(Stop::Ended)?;
-    for word in words.iter_mut() {
-        *word = read_word(reader)?;
+    let (eights, _) = read_part(reader, &mut bytes, 8 * words.len())?.as_chunks::<8>();
+    for (i, word) in words.iter_mut().enumerate() {
+        *word = u64::from_le_bytes(eights[i]);
     }
     Ok(words)
 }

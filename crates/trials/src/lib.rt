@@ -54,6 +54,9 @@ fn case(reader: &mut impl Read, rt: &impl Print) -> Result<(), Stop> {
     let size = read_size(reader)?;
     let printed = read_size(reader)?;
     let stored = read_size(reader)?;
+    if stored > LINES {
+        return Err(Stop::Ended);
+    }
     let mut file = [0u8; FILE];
     let mut text = [0u8; TEXT];
     let file = read_part(reader, &mut file, size)?;
