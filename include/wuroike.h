@@ -85,8 +85,8 @@ enum wuroike_answer {
  * The lines may be declared as wuroike_line[n] and lent as &line[0].code with 6 * n words.
  *
  * Stack: proofs don't speak of it, so these are measured peaks of the call, in bytes (docs/PERFORMANCE.md). 60 levels of expression, the
- * deepest accepted: 992,120 (a fold), 989,912 (a map), 389,176 (if), less for all else. 4,096 nested records,
- * which are refused once all are read: 654,648. A path of 512 names: 103,456. A clean model: 56,792. Give a thread 1,200,000.
+ * deepest accepted: 1,003,448 (a fold), 616,088 (a map), 389,176 (if), less for all else. 4,096 nested records,
+ * which are refused once all are read: 392,920. A path of 512 names: 87,072. A clean model: 56,792. Give a thread 1,200,000.
  * Static memory: none is written.
  */
 uint64_t wuroike_check(const uint8_t *kinds, size_t kinds_length, const uint64_t *words, size_t words_length, const uint8_t *text,
@@ -103,7 +103,7 @@ uint64_t wuroike_check(const uint8_t *kinds, size_t kinds_length, const uint64_t
  * wuroike_check takes one pass whatever the number of lines. Lend 6 words for each line to have one pass here too (docs/PERFORMANCE.md has
  * the times).
  *
- * Stack: 32,848 bytes more than above in every case, at most 1,024,968. Give a thread 1,200,000.
+ * Stack: 32,848 bytes more than above in every case, at most 1,036,296. Give a thread 1,200,000.
  */
 uint64_t wuroike_check_project(const uint8_t *kinds, size_t kinds_length, const uint64_t *words, size_t words_length, const uint8_t *text,
                                size_t text_length, uint64_t *work, size_t work_length, wuroike_line *lines, size_t lines_length,

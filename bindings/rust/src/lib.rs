@@ -20,7 +20,7 @@ pub const RECORDS: usize = 4096;
 pub const TEXT: usize = 16384;
 /// Least words of work memory.
 pub const WORK: usize = 4096;
-/// Bytes of stack that are enough for every call: the most that was measured is 1,024,968 (docs/PERFORMANCE.md).
+/// Bytes of stack that are enough for every call: the most that was measured is 1,036,296 (docs/PERFORMANCE.md).
 pub const STACK: usize = 1_200_000;
 
 /// A line of the report.
