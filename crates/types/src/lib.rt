@@ -54,7 +54,7 @@ impl Typ {
 
     // The type of base kind k, with name number n.
     #[tactic(auto, unfolding(crate::specs::Value::asTy, crate::specs::Value::up))]
-    fn bottom(k: u8, n: u64) -> Typ
+    pub fn bottom(k: u8, n: u64) -> Typ
         requires { k ≡ 33 → n < 512 }
         ensures { Bottom k n result }
     {
@@ -183,5 +183,24 @@ impl Typ {
         self.levels == u.levels
             && self.lengths[..self.levels] == u.lengths[..u.levels]
             && self.same_bottom(u)
+    }
+}
+
+#[cfg(test)]
+mod tests {
+    use super::*;
+
+    // The types that `bottom` gives are told apart by their kind, and names and tuples by their number too.
+    #[test]
+    fn bottoms(rt: HostRuntime) {
+        let name = Typ::bottom(kinds::NAMED, 511);
+        let tuple = Typ::bottom(TUPLE, 3);
+        let int = Typ::bottom(kinds::INT32, 7);
+        assert_eq!(rt; (name.base, name.name, name.levels), (kinds::NAMED, 511, 0));
+        assert_eq!(rt; (tuple.base, tuple.name, tuple.levels), (TUPLE, 3, 0));
+        assert_eq!(rt; tuple.members(), Some(3));
+        assert!(rt; int.same(&Typ::basic(kinds::INT32)));
+        assert!(rt; !name.same(&Typ::bottom(kinds::NAMED, 510)));
+        assert!(rt; !tuple.same(&Typ::bottom(TUPLE, 2)));
     }
 }
