@@ -151,7 +151,10 @@ passing_same p q (suc k) j h =
 pub record Over (ws : List ℕ) (a : ℕ) (i : RowNames) : Type 0 where
   pub has : (b : ℕ) → b < 512 → has i.row.now 0 b ≡ has ws a b
 
--- over the first eight words, a set, or over those of a row of a graph
+-- over the words of a set, the first eight of a list, or those of a row of a graph
+pub over_set : {ws : List ℕ} {i : RowNames} → i.row.now ≡ ws → Over ws 0 i
+over_set e = record { has = λ b h. rw e refl }
+
 pub over_front : {ws : List ℕ} {i : RowNames} → i.row.now ≡ take 8 ws → Over ws 0 i
 unfolding has
 over_front {ws} e = record { has = λ b h. rw e (ap (λ (v : ℕ). bit v (b % 64)) (get_or-take 8 ws (8 * 0 + b / 64) 0 (omega arith))) }

@@ -1,7 +1,7 @@
 -- The steps of `search` beside those of the definition's `starts`, and what its answer says of the equations.
 -- Assumes nothing.
 use Rattle.std.specs.Prelude.{Option, None, Some, IfSome, is_some}
-use Rattle.std.proofs.lemmas.List.{length-append, take-append-le}
+use Rattle.std.proofs.lemmas.List.{append-nil, length-append, take-append-le}
 use Rattle.std.proofs.lemmas.Option.{same_Some}
 use Prim.Native.Nat.{ℕ, zero, suc, ◌+◌, ◌*◌, ◌-◌, ◌≤◌, ◌<◌, ◌/◌, ◌%◌}
 use native.Mathlib.Omega.{arith}
@@ -98,20 +98,26 @@ walk_front graph defs f =
     walk_renamed eqb eqb (row graph) (row (take 4096 graph)) (λ (n : ℕ). n) (λ (n : ℕ). n < 512) (λ x y h k. refl) (row_front graph) (λ x h. row_named graph x) f (row defs 0) (row_named defs 0) in
     sym (ap (walk eqb (row (take 4096 graph)) f) (sym (map-id (row defs 0))) ∙ r.1 ∙ renamed_none (walk eqb (row graph) f (row defs 0)))
 
--- the definition's `enter` along the first 4,096 words of a graph
-abbrev enter_front : List ℕ → ℕ → List ℕ → ℕ → List ℕ → Search ℕ
-enter_front graph f = enter eqb (row (take 4096 graph)) f
+-- the definition's `enter` along `rows`
+abbrev enter_along : List ℕ → ℕ → List ℕ → ℕ → List ℕ → Search ℕ
+enter_along rows f = enter eqb (row rows) f
 
--- What the loop over the names to start from keeps: those below v are done.
-pub record Searching (graph defs : List ℕ) (colour : List Colour) (path : List ℕ) (looks v : ℕ) : Type 0 where
+-- What the loop over the names to start from keeps, where they are entered along `rows`: those below v are done.
+pub record SearchingAlong (rows graph defs : List ℕ) (colour : List Colour) (path : List ℕ) (looks v : ℕ) : Type 0 where
   pub wide : length colour ≡ 512
   pub bounded : looks + 512 * free colour ≤ 262144
   pub right : (f : ℕ) → 512 ≤ f
-      → (cl : List ℕ) × Colours colour [] cl × (walk eqb (row graph) f (row defs 0) ≡ more looks (starts eqb (enter_front graph f) (row_from defs 0 v) cl))
+      → (cl : List ℕ) × Colours colour [] cl × (walk eqb (row graph) f (row defs 0) ≡ more looks (starts eqb (enter_along rows f) (row_from defs 0 v) cl))
 
-pub searching_start : {graph defs path : List ℕ} → Searching graph defs (replicate 512 Free) path 0 0
+-- where they are entered along the graph itself
+abbrev pub Searching : (graph defs : List ℕ) (colour : List Colour) (path : List ℕ) (looks v : ℕ) → Type 0
+Searching graph defs colour path looks v = SearchingAlong graph graph defs colour path looks v
+
+-- nothing is done yet, and the walk comes to the same names along `rows`
+searching_from : {rows graph defs path : List ℕ} → ((f : ℕ) → walk eqb (row graph) f (row defs 0) ≡ walk eqb (row rows) f (row defs 0))
+    → SearchingAlong rows graph defs (replicate 512 Free) path 0 0
 unfolding walk mem
-searching_start {graph} {defs} {path} =
+searching_from {rows} {graph} {defs} {path} same =
     let none : List Colour = replicate 512 Free in
     let len : length none ≡ 512 = length-replicate {A = Colour} 512 Free in
     record {
@@ -120,11 +126,18 @@ searching_start {graph} {defs} {path} =
       right = λ f h. (
         [],
         record { on = λ x b. sym (ap is_on (get_or-replicate 512 x Free Free b)); off = λ x b. sym (ap is_off (get_or-replicate 512 x Free Free b)) },
-        walk_front graph defs f ∙ sym (more_none (starts eqb (enter_front graph f) (row defs 0) [])),
+        same f ∙ sym (more_none (starts eqb (enter_along rows f) (row defs 0) [])),
       );
     }
 
-module _ {graph defs : List ℕ} {colour : List Colour} {path : List ℕ} {looks v : ℕ} (l : Searching graph defs colour path looks v) where
+pub searching_start : {graph defs path : List ℕ} → Searching graph defs (replicate 512 Free) path 0 0
+searching_start = searching_from (λ f. refl)
+
+-- along the first 4,096 words
+pub searching_front : {graph defs path : List ℕ} → SearchingAlong (take 4096 graph) graph defs (replicate 512 Free) path 0 0
+searching_front {graph} {defs} = searching_from (walk_front graph defs)
+
+module _ {rows graph defs : List ℕ} {colour : List Colour} {path : List ℕ} {looks v : ℕ} (l : SearchingAlong rows graph defs colour path looks v) where
   -- no name is left to start from
   pub searched_none : (all : List ℕ) → row_from defs 0 v ≡ [] → Searches graph defs all None looks
   unfolding starts more
@@ -138,13 +151,13 @@ module _ {graph defs : List ℕ} {colour : List Colour} {path : List ℕ} {looks
       let r = l.right f b in
       subst
       (λ (o : Search ℕ). Shown o all None looks)
-      (sym (r.2 ∙ ap (λ (vs : List ℕ). more looks (starts eqb (enter_front graph f) vs r.0)) h))
+      (sym (r.2 ∙ ap (λ (vs : List ℕ). more looks (starts eqb (enter_along rows f) vs r.0)) h))
       (refl, sym (add-zero looks)))
 
   module _ {b : ℕ} (n : First defs 0 v b) where
     -- the name to start from, and those behind it
-    at_hand : (f : ℕ) (h : 512 ≤ f) → walk eqb (row graph) f (row defs 0) ≡ more looks (starts eqb (enter_front graph f) (b ∷ row_from defs 0 (b + 1)) (l.right f h).0)
-    at_hand f h = let r = l.right f h in r.2 ∙ ap (λ (vs : List ℕ). more looks (starts eqb (enter_front graph f) vs r.0)) (first_names n)
+    at_hand : (f : ℕ) (h : 512 ≤ f) → walk eqb (row graph) f (row defs 0) ≡ more looks (starts eqb (enter_along rows f) (b ∷ row_from defs 0 (b + 1)) (l.right f h).0)
+    at_hand f h = let r = l.right f h in r.2 ∙ ap (λ (vs : List ℕ). more looks (starts eqb (enter_along rows f) vs r.0)) (first_names n)
 
     -- none of the colours is `OnPath` between two starts
     off_path : get_or colour b Free ≡ OnPath → ⊥
@@ -157,7 +170,7 @@ module _ {graph defs : List ℕ} {colour : List Colour} {path : List ℕ} {looks
     passed Cleared h k = refl
 
     -- it is cleared already
-    pub searching_skip : (get_or colour b Free ≡ Free → ⊥) → Searching graph defs colour path looks (b + 1)
+    pub searching_skip : (get_or colour b Free ≡ Free → ⊥) → SearchingAlong rows graph defs colour path looks (b + 1)
     unfolding mem
     searching_skip e =
         record {
@@ -165,25 +178,25 @@ module _ {graph defs : List ℕ} {colour : List Colour} {path : List ℕ} {looks
           bounded = l.bounded;
           right = λ f h.
               let r = l.right f h in
-              (r.0, r.1, at_hand f h ∙ ap (more looks) ((starts_going eqb (enter_front graph f)).skip b (row_from defs 0 (b + 1)) r.0 refl (r.1.off b n.name ∙ passed (get_or colour b Free) e off_path) ∙ more_none (starts eqb (enter_front graph f) (row_from defs 0 (b + 1)) r.0)));
+              (r.0, r.1, at_hand f h ∙ ap (more looks) ((starts_going eqb (enter_along rows f)).skip b (row_from defs 0 (b + 1)) r.0 refl (r.1.off b n.name ∙ passed (get_or colour b Free) e off_path) ∙ more_none (starts eqb (enter_along rows f) (row_from defs 0 (b + 1)) r.0)));
         }
 
     module _ (e : get_or colour b Free ≡ Free) where
       pub can_start : CanEnter colour 0 b
       can_start = record { name = n.name; room = omega (arith, free_le colour, l.wide); new = e }
 
-      module _ {colour' : List Colour} {path' : List ℕ} {end : Option ℕ} {k : ℕ} (h : Enters (take 4096 graph) colour path 0 b colour' path' end k) where
+      module _ {colour' : List Colour} {path' : List ℕ} {end : Option ℕ} {k : ℕ} (h : Enters rows colour path 0 b colour' path' end k) where
         pub bound_here : looks + k + 512 * free colour' ≤ 262144
         bound_here = omega (arith, l.bounded, h.bounded)
 
         -- the definition enters it too
         entered : (f : ℕ) (m : 512 ≤ f)
-            → Alike (enter_front graph f [] b (l.right f m).0) [] b colour' path' end k
-            × (walk eqb (row graph) f (row defs 0) ≡ more looks (after (enter_front graph f [] b (l.right f m).0) (λ cl. starts eqb (enter_front graph f) (row_from defs 0 (b + 1)) (b ∷ cl))))
+            → Alike (enter_along rows f [] b (l.right f m).0) [] b colour' path' end k
+            × (walk eqb (row graph) f (row defs 0) ≡ more looks (after (enter_along rows f [] b (l.right f m).0) (λ cl. starts eqb (enter_along rows f) (row_from defs 0 (b + 1)) (b ∷ cl))))
         unfolding mem
         entered f m =
             let r = l.right f m in
-            let rec : List ℕ → ℕ → List ℕ → Search ℕ = enter_front graph f in (
+            let rec : List ℕ → ℕ → List ℕ → Search ℕ = enter_along rows f in (
               h.right r.0 f r.1 (omega (arith, free_le colour, l.wide)),
               at_hand f m
                   ∙ ap
@@ -193,20 +206,20 @@ module _ {graph defs : List ℕ} {colour : List Colour} {path : List ℕ} {looks
             )
 
         -- and clears it
-        pub searching_clear : length colour' ≡ 512 → end ≡ None → Searching graph defs colour' path' (looks + k) (b + 1)
+        pub searching_clear : length colour' ≡ 512 → end ≡ None → SearchingAlong rows graph defs colour' path' (looks + k) (b + 1)
         unfolding after
         searching_clear wide z =
             record {
               wide = wide;
               bounded = bound_here;
-              right = λ f m. let r = entered f m in cleared f (enter_front graph f [] b (l.right f m).0) r.0 r.1;
+              right = λ f m. let r = entered f m in cleared f (enter_along rows f [] b (l.right f m).0) r.0 r.1;
             }
           where
             go : ℕ → List ℕ → Search ℕ
-            go f cl = starts eqb (enter_front graph f) (row_from defs 0 (b + 1)) (b ∷ cl)
+            go f cl = starts eqb (enter_along rows f) (row_from defs 0 (b + 1)) (b ∷ cl)
 
             cleared : (f : ℕ) (o : Search ℕ) → Alike o [] b colour' path' end k → walk eqb (row graph) f (row defs 0) ≡ more looks (after o (go f))
-                → (cl : List ℕ) × Colours colour' [] cl × (walk eqb (row graph) f (row defs 0) ≡ more (looks + k) (starts eqb (enter_front graph f) (row_from defs 0 (b + 1)) cl))
+                → (cl : List ℕ) × Colours colour' [] cl × (walk eqb (row graph) f (row defs 0) ≡ more (looks + k) (starts eqb (enter_along rows f) (row_from defs 0 (b + 1)) cl))
             cleared f (found c m) a q = absurd (true≢false (ap is_some (sym a.is ∙ z)))
             cleared f (clear cl m) a q = (b ∷ cl, a.colours, q ∙ more_more looks m (go f cl) ∙ ap (λ (y : ℕ). more (looks + y) (go f cl)) a.counted)
 
@@ -214,10 +227,10 @@ module _ {graph defs : List ℕ} {colour : List Colour} {path : List ℕ} {looks
         module _ {at : ℕ} (z : end ≡ Some at) where
           found_loop : (f : ℕ) → 512 ≤ f → (c : List ℕ) × (walk eqb (row graph) f (row defs 0) ≡ found c (looks + k)) × Ends path' at c
           unfolding after more
-          found_loop f m = let r = entered f m in looped (enter_front graph f [] b (l.right f m).0) r.0 r.1
+          found_loop f m = let r = entered f m in looped (enter_along rows f [] b (l.right f m).0) r.0 r.1
             where
               looped : (o : Search ℕ) → Alike o [] b colour' path' end k
-                  → walk eqb (row graph) f (row defs 0) ≡ more looks (after o (λ cl. starts eqb (enter_front graph f) (row_from defs 0 (b + 1)) (b ∷ cl)))
+                  → walk eqb (row graph) f (row defs 0) ≡ more looks (after o (λ cl. starts eqb (enter_along rows f) (row_from defs 0 (b + 1)) (b ∷ cl)))
                   → (c : List ℕ) × (walk eqb (row graph) f (row defs 0) ≡ found c (looks + k)) × Ends path' at c
               looped (found c y) a q = (c, q ∙ ap (λ (x : ℕ). found c (looks + x)) a.counted, subst (λ (x : ℕ). Ends path' x c) (same_Some a.at at (sym a.is ∙ z)) a.there)
               looped (clear cl y) a q = absurd (true≢false (ap is_some (sym z ∙ a.nothing)))
@@ -225,8 +238,9 @@ module _ {graph defs : List ℕ} {colour : List Colour} {path : List ℕ} {looks
           pub can_place : (1 ≤ at) × (at ≤ 513)
           can_place = let r = found_loop 512 (le_refl 512) in (r.2.some, r.2.fits)
 
-          pub searched_loop : {start : ℕ} (behind : List ℕ) → length path' ≡ 513 → Places path' at start → Searches graph defs (path' ++ behind) (Some (record { start = start; end = at })) (looks + k)
-          searched_loop {start} behind long p =
+          -- in the front of a longer path
+          pub searched_loop_within : {start : ℕ} (behind : List ℕ) → length path' ≡ 513 → Places path' at start → Searches graph defs (path' ++ behind) (Some (record { start = start; end = at })) (looks + k)
+          searched_loop_within {start} behind long p =
               searched
               can_place.1
               (omega (arith, can_place.1, long, length-append path' behind))
@@ -235,3 +249,7 @@ module _ {graph defs : List ℕ} {colour : List Colour} {path : List ℕ} {looks
               (λ f m.
               let r = found_loop f m in
               subst (λ (o : Search ℕ). Shown o (path' ++ behind) (Some (record { start = start; end = at })) (looks + k)) (sym r.1) (record { start = start; end = at }, refl, ap (drop start) (take-append-le at path' behind (omega (arith, can_place.1, long))) ∙ p.loop ∙ sym r.2.loop, refl))
+
+          pub searched_loop : {start : ℕ} → length path' ≡ 513 → Places path' at start → Searches graph defs path' (Some (record { start = start; end = at })) (looks + k)
+          searched_loop {start} long p =
+              subst (λ (q : List ℕ). Searches graph defs q (Some (record { start = start; end = at })) (looks + k)) (append-nil path') (searched_loop_within [] long p)

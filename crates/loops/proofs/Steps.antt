@@ -383,6 +383,9 @@ module _ {colour : List Colour} {path : List ℕ} {depth node : ℕ} (can : Ente
       pub bound_here : looks₁ + 1 + 512 * free colour₁ ≤ 512 * free colour
       bound_here = omega (arith, l.bounded, marked, n.name, n.after)
 
+      pub fits_here : looks₁ + 1 + 512 * free colour₁ ≤ 262144
+      fits_here = omega (arith, bound_here, can.asked.room)
+
       pub can_deeper : get_or colour₁ b Free ≡ Free → CanEnter colour₁ (depth + 1) b
       can_deeper e = record { name = n.name; room = omega (arith, l.goes.fewer, marked, can.asked.room); new = e }
 
